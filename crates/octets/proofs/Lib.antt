@@ -1,0 +1,6 @@
+pub mod Choices
+pub mod Fixed
+pub mod Laws
+pub mod Placing
+pub mod Tests
+pub mod Unique

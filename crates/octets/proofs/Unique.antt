@@ -1,0 +1,1 @@
+-- No second result satisfies a contract of this crate.
