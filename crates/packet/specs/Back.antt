@@ -11,12 +11,12 @@ use Rattle.packet.specs.Write.{fieldsWrong, packetOctets}
 use Rattle.packet.specs.declared.Packet.{Packet}
 
 -- What was written is accepted and reads back to the same fields and source data.
-pub record ReadBack (p : Packet) (source : List ℕ) : Type 0 where
-  pub fields : readPacket (packetOctets p source) ≡ accept p
-  pub data : sourceOf p (packetOctets p source) ≡ source
+pub record ReadBack (p : Packet) (d : List ℕ) : Type 0 where
+  pub fields : readPacket (packetOctets p d) ≡ accept p
+  pub source : sourceOf p (packetOctets p d) ≡ d
 
 abbrev pub ReadsBack : Type 0
-ReadsBack = (p : Packet) (source : List ℕ) → fieldsWrong p (length source) ≡ false → ReadBack p source
+ReadsBack = (p : Packet) (d : List ℕ) → fieldsWrong p (length d) ≡ false → ReadBack p d
 
 -- What was accepted is what the writer gives for its fields and source data, and the writer accepts them.
 pub record WrittenBack (p : Packet) (s : List ℕ) : Type 0 where

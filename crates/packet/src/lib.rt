@@ -121,7 +121,9 @@ fn lay(p: Packet, source: &[u8], out: &mut [u8])
 impl Packet {
     // The least and the greatest length of a packet, and the place of its source data.
     pub const LEAST: usize = 16;
+
     pub const GREATEST: usize = 251;
+
     pub const SOURCE: usize = 14;
 
     // The fields of the packet that octets are, or refusal 20, 21 or 22, the first that holds.
