@@ -43,7 +43,9 @@ module _ {o : Order} {table octets : List ℕ} {i s : ℕ} (p : Passed o table o
       let found : getD table k 0 ≡ tableWord o 8 k = eqb→eq _ _ (at (right o) table (p .words) k (omega (arith, place b))) in
       record {
         words = p .words;
-        holds = rw (register-more o octets i h) (holds-turn o 8 8 s (getD octets i 0) (getD table k 0) (register o (take i octets)) refl (p .holds) found);
+        holds =
+            rw (register-more o octets i h)
+            (holds-turn o 8 8 s (getD octets i 0) (getD table k 0) (register o (take i octets)) refl (p .holds) found);
       }
 
   -- all have: the check is the number, with the mask m added

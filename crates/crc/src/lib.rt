@@ -5,7 +5,8 @@ ghost use Rattle.crc.specs.Check.{packetCheck, frameCheck};
 // The register at the start: all ones.
 const START: u16 = 0xffff;
 
-// Word k is what the register has after the bits of k, high bit first, from all zeros: 001's table, its words 89, 90, 106 and 239 put right.
+// Word k is what the register has after the bits of k, high bit first, from all zeros.
+// 001's table, with its misprinted words 89, 90, 106 and 239 put right.
 const HIGH: [u16; 256] = [
     0x0000,
     0x1021,
