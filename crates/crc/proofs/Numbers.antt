@@ -1,20 +1,18 @@
 -- Numbers and their rows of bits, in either order.
--- Assumes nothing.
 use mathlib.Core.Path.{_≡_, refl, sym, ap, ap₂, _∙_, subst}
-use mathlib.Core.Bool.{Bool, true, false, not}
-use mathlib.Core.List.{List, [], _∷_, _++_, append-assoc, append-nil, reverse, reverse-append, reverse-reverse, reverse-cons}
-use Prim.Native.Nat.{ℕ, zero, suc, _+_, _*_, _/_, _%_, _^_, _≤_, _<_}
-use native.Mathlib.Nat.{suc-inj, suc-ne-zero, le-of-suc-le-suc, not-suc-le-zero, mod-lt, zero-lt-suc, suc-add, zero-add, div-add-mod', div-one, le-refl, mul-mod-left, mul-div-cancel, lt-of-le-of-lt, lt-of-lt-of-le, pow-suc, zero-div, zero-mod}
+use mathlib.Core.Bool.{Bool, true, false}
+use mathlib.Core.List.{List, [], _∷_, _++_, reverse, reverse-append, reverse-reverse, reverse-cons}
+use Prim.Native.Nat.{ℕ, zero, suc, _+_, _*_, _/_, _%_, _^_, _<_}
+use native.Mathlib.Nat.{suc-inj, suc-ne-zero, le-of-suc-le-suc, not-suc-le-zero, mod-lt, zero-lt-suc, suc-add, zero-add, div-add-mod', div-one, le-refl, pow-suc}
 use native.Mathlib.Numerals.{add-one}
-use lib.ListN.{length, length-append, length-reverse}
+use lib.ListN.{length, length-reverse}
 use lib.Dec.{eqb}
 use lib.Arith.{digits-lt, digits-div, digits-mod, lt-one}
-use lib.Pow.{pow-pos, shr-lt, shr-shr, field, mod-mod-pow, mod-pow-add}
+use lib.Pow.{shr-lt, shr-shr, field, mod-mod-pow}
 use lib.Bits.{bitXor, xor-shr, xor-mod}
-use Rattle.crc.specs.Check.{_⊕_, plus, zeros, ones, run, Order, ordered, odd, digit, digitsOf, valueOf, bitsOf, numberOf, bitsOfAll, register, octetsOf}
+use Rattle.crc.specs.Check.{_⊕_, plus, zeros, Order, ordered, odd, digit, digitsOf, valueOf, bitsOf, numberOf}
 use Rattle.crc.specs.Check.Order.{highFirst, lowFirst}
-use Rattle.crc.proofs.Rows.{plus-append, length-plus}
-use Rattle.crc.proofs.Register.{split, run-append}
+use Rattle.crc.proofs.Rows.{plus-append}
 
 two : zero < 2
 two = zero-lt-suc 1

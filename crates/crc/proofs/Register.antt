@@ -1,16 +1,15 @@
--- Laws of the register: it is linear, a run of bits can be split off it, and its step has an inverse.
--- Assumes nothing.
-use mathlib.Core.Path.{_≡_, refl, sym, ap, ap₂, _∙_, subst}
-use mathlib.Core.Bool.{Bool, true, false, not}
+-- Laws of the register: it is linear, and a run of bits can be split off it.
+use mathlib.Core.Path.{_≡_, refl, sym, ap, ap₂, _∙_}
+use mathlib.Core.Bool.{Bool, true, false}
 use mathlib.Core.List.{List, [], _∷_, _++_, append-assoc, append-nil}
-use Prim.Native.Nat.{ℕ, zero, suc, _+_, _-_, _≤_}
-use native.Mathlib.Nat.{suc-inj, suc-ne-zero, sub-add-cancel}
-use lib.ListN.{length, take, length-append}
-use lib.Seq.{append-snoc, take-at}
+use Prim.Native.Nat.{ℕ}
+use native.Mathlib.Nat.{suc-inj, suc-ne-zero}
+use lib.ListN.{length}
+use lib.Seq.{append-snoc}
 use Rattle.crc.specs.Check.{_⊕_, plus, zeros, generator, feed, step, run}
-use Rattle.crc.proofs.Rows.{⊕-false, ⊕-swap, plus-comm, plus-assoc, plus-swap, plus-self, plus-zeros, zeros-plus, length-plus, plus-append, plus-twice, plus-zero-eq, length-zeros, length-snoc, zeros-append}
+use Rattle.crc.proofs.Rows.{⊕-false, ⊕-swap, plus-comm, plus-assoc, plus-swap, plus-zeros, zeros-plus, length-plus, plus-append, length-zeros, length-snoc}
 
-abbrev Z : List Bool
+abbrev pub Z : List Bool
 Z = zeros 16
 
 -- ---- lengths
@@ -33,7 +32,7 @@ run-append r (a ∷ cs) bs = run-append (step r a) cs bs
 
 -- ---- the register is linear
 
-plus-Z : (r : List Bool) → length r ≡ 16 → plus r Z ≡ r
+pub plus-Z : (r : List Bool) → length r ≡ 16 → plus r Z ≡ r
 plus-Z r h = ap (λ (n : ℕ). plus r (zeros n)) (sym h) ∙ plus-zeros r
 
 Z-plus : (r : List Bool) → length r ≡ 16 → plus Z r ≡ r
@@ -69,10 +68,6 @@ apart r s bs n h k e =
     ap (run (plus r s)) (sym (ap (λ (m : ℕ). plus (zeros m) bs) (sym e) ∙ zeros-plus bs))
     ∙ run-plus r s (zeros n) bs h k (length-zeros n ∙ sym e)
 
-pub run-zeros : (n : ℕ) → run Z (zeros n) ≡ Z
-run-zeros zero = refl
-run-zeros (suc n) = run-zeros n
-
 -- ---- the first places of the register and the bits that come in only count by their sum; the other places move up.
 -- With 8 places it is the rule of a table of 256 words, with 4 of one of 16, and with 16 what a check over its own bits gives.
 
@@ -107,50 +102,3 @@ split (t ∷ hs) (b ∷ bs) ls e h =
     one =
         ap₂ feed (sym (⊕-false (t ⊕ b))) (sym (Z-plus X wide))
         ∙ feed-plus (t ⊕ b) false Z X refl wide
-
--- ---- a step over 0 has an inverse: the generator's X^0 says what left
-
-abbrev last : List Bool → Bool
-last [] = false
-last (x ∷ []) = x
-last (x ∷ y ∷ ys) = last (y ∷ ys)
-
-abbrev front : List Bool → List Bool
-front [] = []
-front (x ∷ []) = []
-front (x ∷ y ∷ ys) = x ∷ front (y ∷ ys)
-
-last-snoc : (xs : List Bool) (x : Bool) → last (xs ++ (x ∷ [])) ≡ x
-last-snoc [] x = refl
-last-snoc (y ∷ []) x = refl
-last-snoc (y ∷ z ∷ xs) x = last-snoc (z ∷ xs) x
-
-front-snoc : (xs : List Bool) (x : Bool) → front (xs ++ (x ∷ [])) ≡ xs
-front-snoc [] x = refl
-front-snoc (y ∷ []) x = refl
-front-snoc (y ∷ z ∷ xs) x = ap (λ (r : List Bool). y ∷ r) (front-snoc (z ∷ xs) x)
-
-abbrev back : List Bool → List Bool
-back q = last q ∷ front (feed (last q) q)
-
--- the generator without its X^0
-above : List Bool
-above = front generator
-
-back-step : (r : List Bool) → length r ≡ 16 → back (step r false) ≡ r
-unfolding above
-back-step [] h = absurd (suc-ne-zero 15 (sym h))
-back-step (false ∷ r) h =
-    ap (λ (t : Bool). t ∷ front (feed t (r ++ (false ∷ [])))) (last-snoc r false) ∙ ap (λ (q : List Bool). false ∷ q) (front-snoc r false)
-back-step (true ∷ r) h =
-    ap (λ (t : Bool). t ∷ front (feed t (plus (r ++ (false ∷ [])) generator)))
-    (ap last (plus-append r above (false ∷ []) (true ∷ []) (suc-inj h)) ∙ last-snoc (plus r above) true)
-    ∙ ap (λ (q : List Bool). true ∷ front q) (plus-twice (r ++ (false ∷ [])) generator (length-snoc r false ∙ h))
-    ∙ ap (λ (q : List Bool). true ∷ q) (front-snoc r false)
-
-pub step-zero : (r : List Bool) → length r ≡ 16 → step r false ≡ Z → r ≡ Z
-step-zero r h z = sym (back-step r h) ∙ ap back z
-
-pub run-zero : (n : ℕ) (r : List Bool) → length r ≡ 16 → run r (zeros n) ≡ Z → r ≡ Z
-run-zero zero r h z = z
-run-zero (suc n) r h z = step-zero r h (run-zero n (step r false) (length-step r false h) z)

@@ -1,48 +1,44 @@
 -- `crc::packet_check` meets its contract. The loop's invariant: `crc` has the register's bits after the octets passed.
--- Assumes nothing.
-use mathlib.Core.Path.{_≡_, sym, _∙_}
-use Prim.Native.Nat.{_-_, _/_, _<_}
+use mathlib.Core.Path.{refl, sym, _∙_}
+use Prim.Native.Nat.{_-_, _<_}
 use native.Mathlib.Omega.{arith}
 use lib.Dec.{lit<}
 use lib.ListN.{length, getD}
-use lib.Bits.{bitXor, xor-zero-r}
+use lib.Bits.{xor-zero-r}
 use Rattle.crc.specs.Check.Order.{highFirst}
-use Rattle.crc.proofs.Octets.{Passed, passed-none, passed-more, passed-all, place-lt}
-use Rattle.crc.proofs.Words.{high, high-word}
+use Rattle.crc.proofs.Turn.{tableWord}
+use Rattle.crc.proofs.Passed.{right, Passed, passed-none, place, passed-more, passed-all}
 use Rattle.crc.proofs.packet_check.Statement.{statement}
 use Rattle.crc.proofs.packet_check.Tie as tie
 
 abbrev Inv-loop : tie.InvT-loop
-Inv-loop octets table crc₀ i₀ crc i = Passed highFirst octets i crc
+Inv-loop octets table crc₀ i₀ crc i = Passed highFirst table octets i crc
 
 abbrev μ-loop : tie.MeasureT-loop
 μ-loop octets table crc₀ i₀ crc i = length octets - i
 
--- the place in the table
-place : (c : tie.After-shared-slice-known Inv-loop μ-loop)
-    → bitXor (_/_ (c .before .before .loop .crc) 256) (getD (c .before .before .before .args .octets .now) (c .before .before .loop .i) 0) < 256
-place c =
-    place-lt highFirst 8 8 (c .before .before .loop .crc) (getD (c .before .before .before .args .octets .now) (c .before .before .loop .i) 0)
-    (c .before .before .loop .inv .holds .fits)
-    (omega (arith, c .shared-slice-known .given (c .before .before .loop .i)))
+octet : (c : tie.After-shared-slice-known Inv-loop μ-loop)
+    → getD (c .before .before .before .args .octets .now) (c .before .before .loop .i) 0 < 256
+octet c = omega (arith, c .shared-slice-known .given (c .before .before .loop .i))
 
 loop-holds : tie.Need-loop-holds Inv-loop μ-loop
-loop-holds c = passed-none highFirst _
+unfolding right tableWord
+loop-holds c = passed-none highFirst _ _ tt
 
 shared-slice-read-k : tie.Need-shared-slice-read-k Inv-loop μ-loop
 shared-slice-read-k c = omega arith
 
 cast-k : tie.Need-cast-k Inv-loop μ-loop
-cast-k c = omega (arith, c .shared-slice-known .given (c .before .before .loop .i))
+cast-k c = omega (arith, octet c)
 
 cast-crc : tie.Need-cast-crc Inv-loop μ-loop
-cast-crc c = omega (arith, place c)
+cast-crc c = omega (arith, place (c .before .before .loop .inv) (octet c))
 
 mul-crc : tie.Need-mul-crc Inv-loop μ-loop
-mul-crc c = omega (arith, place c)
+mul-crc c = omega (arith, place (c .before .before .loop .inv) (octet c))
 
 array-read-crc : tie.Need-array-read-crc Inv-loop μ-loop
-array-read-crc c = place c
+array-read-crc c = place (c .before .before .loop .inv) (octet c)
 
 add-i : tie.Need-add-i Inv-loop μ-loop
 add-i c = omega arith
@@ -51,14 +47,10 @@ loop-less : tie.Need-loop-less Inv-loop μ-loop
 loop-less c = omega arith
 
 loop-again : tie.Need-loop-again Inv-loop μ-loop
-unfolding high
-loop-again c =
-    passed-more highFirst (c .before .before .before .args .octets .now) (c .before .before .loop .i) (c .before .before .loop .crc)
-    (getD high (bitXor (_/_ (c .before .before .loop .crc) 256) (getD (c .before .before .before .args .octets .now) (c .before .before .loop .i) 0)) 0)
-    (c .before .before .loop .inv) (c .before .loop-test .taken) (high-word _ (place c))
+loop-again c = passed-more (c .before .before .loop .inv) refl (c .before .loop-test .taken) (octet c)
 
 returns : tie.Need-returns Inv-loop μ-loop
-returns c = sym (xor-zero-r (c .before .loop .crc)) ∙ passed-all highFirst _ _ (c .before .loop .crc) 0 (c .before .loop .inv) (c .loop-test .left) (lit< tt)
+returns c = sym (xor-zero-r (c .before .loop .crc)) ∙ passed-all (c .before .loop .inv) 0 (c .loop-test .left) (lit< tt)
 
 pub packet-check-spec : {M : Type 1} → statement M
 packet-check-spec =
