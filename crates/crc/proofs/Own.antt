@@ -63,7 +63,8 @@ only-own o m w octets x y h k e =
     sym (octets-word o x y h k)
     ∙ ap (octetsOf o)
     (sym (number-bits o 16 (wordIn o x y) (word-lt o x y h k))
-    ∙ ap (numberOf o) (own-row-back (register o octets) (bitsOf o 16 (wordIn o x y)) m (length-register o octets) (length-bits o 16 (wordIn o x y)) w ran))
+    ∙ ap (numberOf o)
+    (own-row-back (register o octets) (bitsOf o 16 (wordIn o x y)) m (length-register o octets) (length-bits o 16 (wordIn o x y)) w ran))
   where
     ran : run (register o octets) (bitsOf o 16 (wordIn o x y)) ≡ run Z m
     ran =

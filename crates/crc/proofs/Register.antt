@@ -83,7 +83,8 @@ split (t ∷ hs) (b ∷ bs) ls e h =
     ∙ ap (plus E) (split hs bs (ls ++ (false ∷ [])) (suc-inj e) wide)
     ∙ sym (plus-assoc E (run Z (plus hs bs)) ((ls ++ (false ∷ [])) ++ zeros (length bs)))
     ∙ ap₂ plus
-    (sym (apart (feed (t ⊕ b) Z) Z (plus hs bs) (length bs) fed refl (length-plus hs bs (suc-inj e) ∙ suc-inj e)) ∙ ap (λ (q : List Bool). run q (plus hs bs)) (plus-Z (feed (t ⊕ b) Z) fed))
+    (sym (apart (feed (t ⊕ b) Z) Z (plus hs bs) (length bs) fed refl (length-plus hs bs (suc-inj e) ∙ suc-inj e))
+    ∙ ap (λ (q : List Bool). run q (plus hs bs)) (plus-Z (feed (t ⊕ b) Z) fed))
     (append-snoc ls false (zeros (length bs)))
   where
     X : List Bool

@@ -56,7 +56,8 @@ bits-rest highFirst k j s h =
 bits-rest lowFirst k j s h =
     bits-low k j (s / 2 ^ j)
     ∙ ap (λ (r : List Bool). bitsOf lowFirst k (s / 2 ^ j) ++ r)
-    (ap (bitsOf lowFirst j) (lt-one (shr-lt 0 k (subst (λ (n : ℕ). s / 2 ^ j < 2 ^ n) (sym (zero-add k)) (shr-lt k j h)))) ∙ bits-zero lowFirst j)
+    (ap (bitsOf lowFirst j) (lt-one (shr-lt 0 k (subst (λ (n : ℕ). s / 2 ^ j < 2 ^ n) (sym (zero-add k)) (shr-lt k j h))))
+    ∙ bits-zero lowFirst j)
 
 rest-lt : (o : Order) (k j s : ℕ) → s < 2 ^ (k + j) → rest o k j s < 2 ^ (k + j)
 rest-lt highFirst k j s h = mod-lt (s * 2 ^ j) (pow-pos (k + j))
@@ -97,7 +98,10 @@ pub holds-turn : (o : Order) (k j s b t : ℕ) (r : List Bool) → k + j ≡ 16 
     → t ≡ tableWord o j (bitXor (first o k j s) b) → Holds o (bitXor t (rest o k j s)) (run r (bitsOf o j b))
 holds-turn o k j s b t r w p e =
     record {
-      fits = xor-lt 16 t (rest o k j s) (subst (λ (n : ℕ). n < 2 ^ 16) (sym e) (word o j at .fits)) (subst (λ (n : ℕ). rest o k j s < 2 ^ n) w (rest-lt o k j s wide));
+      fits =
+          xor-lt 16 t (rest o k j s)
+          (subst (λ (n : ℕ). n < 2 ^ 16) (sym e) (word o j at .fits))
+          (subst (λ (n : ℕ). rest o k j s < 2 ^ n) w (rest-lt o k j s wide));
       bits =
           bits-xor o 16 t (rest o k j s)
           ∙ ap₂ plus

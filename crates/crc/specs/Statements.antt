@@ -43,13 +43,16 @@ abbrev pub Found : Type 0
 Found = (o : Order) (mask : List Bool) (octets : List ℕ) → EndsInCheck o mask (withCheck o mask octets)
 
 abbrev pub Accepted : Type 0
-Accepted = (o : Order) (mask : List Bool) (octets : List ℕ) → Octets octets → EndsInCheck o mask octets → withCheck o mask (before octets) ≡ octets
+Accepted =
+    (o : Order) (mask : List Bool) (octets : List ℕ) → Octets octets
+    → EndsInCheck o mask octets → withCheck o mask (before octets) ≡ octets
 
 -- To test the last two octets, or the check over all of them for the residue, is the same.
 abbrev pub SameTest : Type 0
 SameTest =
     (o : Order) (mask : List Bool) → length mask ≡ 16 → (octets : List ℕ) → Octets octets
-    → (EndsInCheck o mask octets → check o mask octets ≡ residue o mask) × (check o mask octets ≡ residue o mask → EndsInCheck o mask octets)
+    → (EndsInCheck o mask octets → check o mask octets ≡ residue o mask)
+    × (check o mask octets ≡ residue o mask → EndsInCheck o mask octets)
 
 -- Over a whole packet the check is 0, over a whole frame 0x0F47.
 abbrev pub PacketOwn : Type 0

@@ -2,7 +2,11 @@
 ghost use mathlib.Core.Path.{_≡_};
 ghost use Rattle.crc.specs.Check.{packetCheck, frameCheck};
 
+// The register at the start: all ones.
+const START: u16 = 0xffff;
+
 // Word k is what the register has after the bits of k, high bit first, from all zeros.
+// 001's table, with its misprinted words 89, 90, 106 and 239 put right.
 const HIGH: [u16; 256] = [
     0x0000,
     0x1021,
@@ -527,8 +531,8 @@ pub fn packet_check(octets: &[u8]) -> u16
     ensures { λ r. ⌜ r ≡ packetCheck (now (octets .entry)) ⌝ }
 {
     let table = HIGH;
-    let mut crc: u16 = 0xffff;
-    let mut i: usize = 0;
+    let mut crc = START;
+    let mut i = 0;
     while i < octets.len() {
         let k = (crc >> 8) ^ (octets[i] as u16);
         crc = table[k as usize] ^ (crc << 8);
@@ -542,8 +546,8 @@ pub fn frame_check(octets: &[u8]) -> u16
     ensures { λ r. ⌜ r ≡ frameCheck (now (octets .entry)) ⌝ }
 {
     let table = LOW;
-    let mut crc: u16 = 0xffff;
-    let mut i: usize = 0;
+    let mut crc = START;
+    let mut i = 0;
     while i < octets.len() {
         let k = (crc % 256) ^ (octets[i] as u16);
         crc = table[k as usize] ^ (crc >> 8);

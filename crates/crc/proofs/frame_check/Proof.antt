@@ -6,7 +6,7 @@ use lib.Dec.{lit<}
 use lib.ListN.{length, getD}
 use Rattle.crc.specs.Check.Order.{lowFirst}
 use Rattle.crc.proofs.Turn.{tableWord}
-use Rattle.crc.proofs.Passed.{right, Passed, passed-none, place, passed-more, passed-all}
+use Rattle.crc.proofs.Passed.{right, Passed, placeOf, passed-none, place, passed-more, passed-all}
 use Rattle.crc.proofs.frame_check.Statement.{statement}
 use Rattle.crc.proofs.frame_check.Tie as tie
 
@@ -16,34 +16,18 @@ Inv-loop octets table crc₀ i₀ crc i = Passed lowFirst table octets i crc
 abbrev μ-loop : tie.MeasureT-loop
 μ-loop octets table crc₀ i₀ crc i = length octets - i
 
+-- the next octet, and its place in the table
 octet : (c : tie.After-shared-slice-known Inv-loop μ-loop)
     → getD (c .before .before .before .args .octets .now) (c .before .before .loop .i) 0 < 256
 octet c = omega (arith, c .shared-slice-known .given (c .before .before .loop .i))
 
+inside : (c : tie.After-shared-slice-known Inv-loop μ-loop)
+    → placeOf lowFirst (c .before .before .loop .crc) (getD (c .before .before .before .args .octets .now) (c .before .before .loop .i) 0) < 256
+inside c = place (c .before .before .loop .inv) (octet c)
+
 loop-holds : tie.Need-loop-holds Inv-loop μ-loop
 unfolding right tableWord
 loop-holds c = passed-none lowFirst _ _ tt
-
-shared-slice-read-k : tie.Need-shared-slice-read-k Inv-loop μ-loop
-shared-slice-read-k c = omega arith
-
-cast-k : tie.Need-cast-k Inv-loop μ-loop
-cast-k c = omega (arith, octet c)
-
-cast-crc : tie.Need-cast-crc Inv-loop μ-loop
-cast-crc c = omega (arith, place (c .before .before .loop .inv) (octet c))
-
-mul-crc : tie.Need-mul-crc Inv-loop μ-loop
-mul-crc c = omega (arith, place (c .before .before .loop .inv) (octet c))
-
-array-read-crc : tie.Need-array-read-crc Inv-loop μ-loop
-array-read-crc c = place (c .before .before .loop .inv) (octet c)
-
-add-i : tie.Need-add-i Inv-loop μ-loop
-add-i c = omega arith
-
-loop-less : tie.Need-loop-less Inv-loop μ-loop
-loop-less c = omega arith
 
 loop-again : tie.Need-loop-again Inv-loop μ-loop
 loop-again c = passed-more (c .before .before .loop .inv) refl (c .before .loop-test .taken) (octet c)
@@ -54,16 +38,7 @@ returns c = passed-all (c .before .loop .inv) 0xffff (c .loop-test .left) (lit< 
 pub frame-check-spec : {M : Type 1} → statement M
 frame-check-spec =
     tie.close
-    (tie.spec
-    Inv-loop
-    μ-loop
-    loop-holds
-    shared-slice-read-k
-    cast-k
-    cast-crc
-    mul-crc
-    array-read-crc
-    add-i
-    loop-less
-    loop-again
-    returns)
+    (tie.spec Inv-loop μ-loop loop-holds
+    (λ c. omega arith) (λ c. omega (arith, octet c)) (λ c. omega (arith, inside c)) (λ c. omega (arith, inside c)) (λ c. inside c)
+    (λ c. omega arith) (λ c. omega arith)
+    loop-again returns)
