@@ -1,0 +1,18 @@
+-- What two answers that are told alike have in common.
+use Prim.Native.Nat.{ℕ}
+use mathlib.Core.Path.{_≡_, ap}
+use mathlib.Core.Bool.{Bool, true, false, true≢false, false≢true}
+use Rattle.answer.specs.Told.{Told, accept, refuse}
+
+pub same-fields : {A : Type 0} {a b : A} → accept a ≡ accept b → a ≡ b
+same-fields {A} h = ap (λ (t : Told A). t .fields) h
+
+pub same-refusal : {A : Type 0} {none : A} {m n : ℕ} → refuse none m ≡ refuse none n → m ≡ n
+same-refusal {A} h = ap (λ (t : Told A). t .refusal) h
+
+-- accepted and refused are never told alike
+pub accept-or-refuse : {A B : Type 0} {a none : A} {n : ℕ} → accept a ≡ refuse none n → B
+accept-or-refuse {A} h = absurd (true≢false (ap (λ (t : Told A). t .accepted) h))
+
+pub refuse-or-accept : {A B : Type 0} {a none : A} {n : ℕ} → refuse none n ≡ accept a → B
+refuse-or-accept {A} h = absurd (false≢true (ap (λ (t : Told A). t .accepted) h))

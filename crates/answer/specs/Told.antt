@@ -1,0 +1,16 @@
+-- What an answer tells: whether it accepts, the refusal's number, and the values.
+use Prim.Native.Nat.{ℕ}
+use mathlib.Core.Bool.{Bool, true, false}
+
+pub record Told (A : Type 0) : Type 0 where
+  pub accepted : Bool
+  pub refusal : ℕ
+  pub fields : A
+
+-- Accepted: no refusal, and the values.
+abbrev pub accept : {A : Type 0} → A → Told A
+accept a = record { accepted = true; refusal = 0; fields = a }
+
+-- Refused: the number, and 0 in every other field (none says what that is).
+abbrev pub refuse : {A : Type 0} → A → ℕ → Told A
+refuse none n = record { accepted = false; refusal = n; fields = none }

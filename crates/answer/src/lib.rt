@@ -1,0 +1,65 @@
+// The paper's refusal numbers, in the order of its table, and the answer of every writer.
+
+// Under 501 octets or under 16 lengths lent.
+pub const ROOM: u16 = 1;
+// Opening, or reading a single frame outside a session, with t above 8.
+pub const TIME_LENGTH: u16 = 2;
+// Arrival number 4,294,967,295 already used.
+pub const ARRIVALS: u16 = 3;
+// A session that opening and steps do not give.
+pub const SESSION: u16 = 4;
+
+// Frame shorter than 23 + t or longer than 274.
+pub const FRAME_LENGTH: u16 = 10;
+// Frame check wrong.
+pub const FRAME_CHECK: u16 = 11;
+// Address, control or protocol octet wrong.
+pub const FRAME_ADDRESS: u16 = 12;
+// Frame version or spare not 0.
+pub const FRAME_VERSION: u16 = 13;
+// Time flag isn't t's, or status spare not 0.
+pub const FRAME_STATUS: u16 = 14;
+// Pointer wrong.
+pub const FRAME_POINTER: u16 = 15;
+
+// Packet outside 16 to 251, or not C + 7.
+pub const PACKET_LENGTH: u16 = 20;
+// Packet check wrong.
+pub const PACKET_CHECK: u16 = 21;
+// Another fixed packet bit wrong.
+pub const PACKET_BITS: u16 = 22;
+
+// Pair unknown.
+pub const PAIR: u16 = 30;
+// Source data length wrong.
+pub const SOURCE_LENGTH: u16 = 31;
+// Line above 119.
+pub const LINE: u16 = 32;
+// Placing: not (128,7).
+pub const NOT_LINE: u16 = 33;
+
+// Image or line list too short.
+pub const IMAGE_SHORT: u16 = 40;
+// Another image number.
+pub const IMAGE_OTHER: u16 = 41;
+// Line held with other pixels.
+pub const LINE_HELD: u16 = 42;
+// Placing with arrival number 0.
+pub const NO_ARRIVAL: u16 = 43;
+// Sequence list too short.
+pub const LIST_SHORT: u16 = 44;
+// That APID's entry above 16,384.
+pub const ENTRY: u16 = 45;
+// APID above 2,047 or count above 16,383.
+pub const COUNT_RANGE: u16 = 46;
+
+// Writer: output too short.
+pub const OUTPUT_SHORT: u16 = 50;
+// Writer: a field out of range.
+pub const FIELD_RANGE: u16 = 51;
+
+// What a writer answers: how many octets it wrote, or the refusal's number.
+pub enum Written {
+    Length(usize),
+    Refused(u16),
+}

@@ -1,0 +1,12 @@
+-- `MasterCount::lost` meets its contract: the law of the three counters.
+use native.Mathlib.Omega.{arith}
+use borrow.Author.Needs.{needs}
+use Rattle.counts.proofs.Laws.{wrapped-full}
+use Rattle.counts.proofs.MasterCount.lost.Statement.{statement}
+use Rattle.counts.proofs.MasterCount.lost.Tie as tie
+
+returns : tie.Need-returns
+returns c = wrapped-full 256 _ _ (c .before .wrapping-sub-u8 .result) _ (search needs) (c .before .wrapping-sub-u8 .ensures) (c .wrapping-sub-u82 .ensures)
+
+pub lost-spec : {M : Type 1} → statement M
+lost-spec = tie.close (tie.spec (λ c κs. search needs) (λ c κs. search needs) returns)

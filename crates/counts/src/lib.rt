@@ -1,0 +1,39 @@
+// Three counters that run apart and are never compared with one another.
+ghost use mathlib.Core.Path.{_≡_};
+ghost use Rattle.counts.specs.Gap.{gap};
+
+// The master frame count, over all channels.
+pub struct MasterCount(pub u8);
+
+// The frame count of one virtual channel.
+pub struct ChannelCount(pub u8);
+
+// The source sequence count of one APID, 14 bits of it in use.
+pub struct SequenceCount(pub u16);
+
+impl MasterCount {
+    // How many frames were lost between the one counted last and this one.
+    pub fn lost(self, last: MasterCount) -> u8
+        ensures { λ r. ⌜ r ≡ gap 256 (self .0) (last .0) ⌝ }
+    {
+        std::num::wrapping_sub_u8(std::num::wrapping_sub_u8(self.0, last.0), 1)
+    }
+}
+
+impl ChannelCount {
+    // How many of the channel's frames were lost between the one counted last and this one.
+    pub fn lost(self, last: ChannelCount) -> u8
+        ensures { λ r. ⌜ r ≡ gap 256 (self .0) (last .0) ⌝ }
+    {
+        std::num::wrapping_sub_u8(std::num::wrapping_sub_u8(self.0, last.0), 1)
+    }
+}
+
+impl SequenceCount {
+    // How many of the APID's packets are missing between the one counted last and this one.
+    pub fn missing(self, last: SequenceCount) -> u16
+        ensures { λ r. ⌜ r ≡ gap 16384 (self .0) (last .0) ⌝ }
+    {
+        std::num::wrapping_sub_u16(std::num::wrapping_sub_u16(self.0, last.0), 1) % 16384
+    }
+}

@@ -1,0 +1,140 @@
+-- What one virtual channel makes of one frame: rules 1 to 5 of document 01, 'The session'.
+use mathlib.Core.List.{List, [], _∷_, _++_}
+use mathlib.Core.Bool.{Bool, true, false, _&&_, cond}
+use mathlib.Core.Option.{Option, none, some}
+use Prim.Native.Nat.{ℕ, zero, suc, _+_, _-_}
+use lib.ListN.{length, drop}
+use lib.Dec.{leb, ltb, eqb}
+use Rattle.octets.specs.Numbers.{at, word}
+use Rattle.counts.specs.Gap.{gap}
+
+-- What of a frame the rules read: the channel count, the pointer and the data.
+pub record Piece : Type 0 where
+  pub count : ℕ
+  pub pointer : ℕ
+  pub octets : List ℕ
+
+-- A packet's whole length, told by its first six octets: C + 7.
+abbrev pub lengthIn : List ℕ → ℕ
+lengthIn p = word (at p 4) (at p 5) + 7
+
+-- 16 to 251 octets.
+abbrev pub allowed : ℕ → Bool
+allowed n = leb 16 n && leb n 251
+
+-- What octets that begin at a packet's first octet amount to.
+pub data Status : Type 0 where
+  unfinished whole wrong : Status
+
+unfoldable pub status : List ℕ → Status
+status h =
+    cond (ltb (length h) 6) unfinished
+    (cond (allowed (lengthIn h)) (cond (ltb (length h) (lengthIn h)) unfinished whole) wrong)
+
+-- A packet that is not whole yet: its octets so far.
+pub record Held : Type 0 where
+  pub octets : List ℕ
+
+abbrev pub nothing : Held
+nothing = record { octets = [] }
+
+-- One octet more.
+abbrev pub grown : Held → ℕ → Held
+grown h x = record { octets = h .octets ++ x ∷ [] }
+
+-- A packet handed out, with the arrival number of the frame that held its last octet.
+pub record Handed : Type 0 where
+  pub arrival : ℕ
+  pub packet : List ℕ
+
+abbrev pub given : ℕ → Held → Handed
+given a h = record { arrival = a; packet = h .octets }
+
+-- What the rules work on: in step or not, what is held, the packets handed out.
+pub record Work : Type 0 where
+  pub inStep : Bool
+  pub held : Held
+  pub packets : List Handed
+
+abbrev pub outOfStep : List Handed → Work
+outOfStep ps = record { inStep = false; held = nothing; packets = ps }
+
+abbrev pub holding : Held → List Handed → Work
+holding h ps = record { inStep = true; held = h; packets = ps }
+
+-- Rule 5, an octet of the frame with arrival number a at a time: in step it goes to the held ones, out of step it is skipped.
+abbrev pub settle : ℕ → Status → Held → List Handed → Work
+settle a unfinished h ps = holding h ps
+settle a whole h ps = holding nothing (ps ++ given a h ∷ [])
+settle a wrong h ps = outOfStep ps
+
+unfoldable pub push : ℕ → Work → ℕ → Work
+push a w x = cond (w .inStep) (settle a (status (grown (w .held) x .octets)) (grown (w .held) x) (w .packets)) w
+
+abbrev pub feed : ℕ → Work → List ℕ → Work
+feed a w [] = w
+feed a w (x ∷ xs) = feed a (push a w x) xs
+
+-- The pointer of a frame of n octets of data in which a header starts at `place`, if that is below n.
+abbrev pub pointerTo : ℕ → ℕ → ℕ
+pointerTo place n = cond (ltb place n) place 255
+
+-- Rule 3. The place just after the held packet's last octet: 0 with nothing held, the data's end while its length is unknown.
+unfoldable pub placeAfter : List ℕ → List ℕ → ℕ
+placeAfter [] xs = 0
+placeAfter (h ∷ hs) xs =
+    cond (ltb (length (h ∷ hs ++ xs)) 6) (length xs) (lengthIn (h ∷ hs ++ xs) - length (h ∷ hs))
+
+-- Rule 3. The held packet's length isn't known to be outside 16 to 251.
+unfoldable pub lengthHolds : List ℕ → List ℕ → Bool
+lengthHolds [] xs = true
+lengthHolds (h ∷ hs) xs = cond (ltb (length (h ∷ hs ++ xs)) 6) true (allowed (lengthIn (h ∷ hs ++ xs)))
+
+-- Rule 3. The frame goes on from what is held.
+abbrev pub fits : List ℕ → ℕ → List ℕ → Bool
+fits held pointer xs = lengthHolds held xs && eqb pointer (pointerTo (placeAfter held xs) (length xs))
+
+-- Rule 4, and what rule 5 makes of it.
+unfoldable pub enter : ℕ → ℕ → List ℕ → Work
+enter a pointer xs = cond (eqb pointer 255) (outOfStep []) (feed a (holding nothing []) (drop pointer xs))
+
+-- Rules 2 to 5, for the frame with arrival number a.
+unfoldable pub follow : ℕ → Bool → Held → ℕ → List ℕ → Work
+follow a inStep h pointer xs =
+    cond (eqb pointer 254) (record { inStep = inStep; held = h; packets = [] })
+    (cond (inStep && fits (h .octets) pointer xs) (feed a (holding h []) xs) (enter a pointer xs))
+
+-- Lost, for channel and master: (count - last - 1) modulo 256; 0 at the first frame.
+unfoldable pub lostSince : Option ℕ → ℕ → ℕ
+lostSince none count = 0
+lostSince (some last) count = gap 256 count last
+
+-- A channel: its last count if it had a frame, in step or not, and what is held.
+pub record Channel : Type 0 where
+  pub last : Option ℕ
+  pub inStep : Bool
+  pub held : Held
+
+-- A fresh channel is out of step.
+abbrev pub fresh : Channel
+fresh = record { last = none; inStep = false; held = nothing }
+
+-- Rule 1, then the others.
+abbrev pub afterLoss : ℕ → ℕ → Bool → Held → ℕ → List ℕ → Work
+afterLoss a zero inStep h pointer xs = follow a inStep h pointer xs
+afterLoss a (suc n) inStep h pointer xs = follow a false nothing pointer xs
+
+-- What the channel answers to a frame: lost frames, packets handed out, and the channel afterwards.
+pub record Answer : Type 0 where
+  pub lost : ℕ
+  pub packets : List Handed
+  pub next : Channel
+
+abbrev pub answer : ℕ → ℕ → Work → Answer
+answer count lost w = record { lost = lost; packets = w .packets; next = record { last = some count; inStep = w .inStep; held = w .held } }
+
+-- The frame f, offered under the arrival number a.
+unfoldable pub step : ℕ → Channel → Piece → Answer
+step a c f =
+    let lost : ℕ = lostSince (c .last) (f .count) in
+    answer (f .count) lost (afterLoss a lost (c .inStep) (c .held) (f .pointer) (f .octets))
