@@ -4,10 +4,19 @@ use native.Mathlib.Nat.{zero-add}
 use native.Mathlib.Omega.{arith}
 use mathlib.Core.Path.{_≡_, refl, sym, ap, _∙_}
 use mathlib.Core.List.{List, _++_}
-use lib.ListN.{length, length-append, length-drop}
+use mathlib.Core.Bool.{false}
+use lib.ListN.{length, take, drop, length-append, length-drop}
 use lib.Seq.{take-append-seam, drop-append-add, drop-drop}
 use Rattle.octets.specs.Parts.{overlay, written}
-use Rattle.recording.specs.Text.{Laid, Lined}
+use Rattle.octets.specs.Pick.{pick}
+use Rattle.packet.specs.Packet.{told}
+use Rattle.packet.specs.declared.Packet.{Packet}
+use Rattle.packet.specs.declared.PacketRead.{PacketRead}
+use Rattle.packet.specs.declared.PacketRead.the-variants as variants
+use Rattle.answer.specs.Writer.{Wrote}
+use Rattle.answer.specs.declared.Written.the-variants.{Length}
+use Rattle.answer.proofs.Writer.{wrote}
+use Rattle.recording.specs.Text.{Laid, Lined, packetLine, turnedAwayLine, packetText}
 
 -- text stands at the start of out, and r is its length, at most `most`
 pub record Begun (text out out′ : List ℕ) (r most : ℕ) : Type 0 where
@@ -38,3 +47,22 @@ ended {text} {out} line s e m = record {
   size = s .size ∙ ap length e;
   most = omega (arith, s .near);
 }
+
+-- what stands at the start of the output is the line
+pub line-there : {text out out′ : List ℕ} {r : ℕ} → Lined text out out′ r → take r out′ ≡ text
+line-there {text} {out} {out′} {r} l = ap (take r) (l .leaves) ∙ ap (λ (n : ℕ). take n (written text out)) (l .size) ∙ take-append-seam text (drop (length text) out)
+
+-- a line with room enough is written
+pub line-written : {text out out′ : List ℕ} {r : ℕ} → Lined text out out′ r → 80 ≤ length out → Wrote false text out (Length r) out′
+line-written l room = wrote {said = false} refl refl (omega (arith, l .size, l .most)) (l .size) (l .leaves)
+
+module _ (arrival size : ℕ) {r : ℕ} {out out′ : List ℕ} {read : PacketRead} where
+  pub taken-line : {p : Packet} → read ≡ variants.Packet p → Lined (packetLine arrival (p .apid) (p .sequence .0) (p .service) (p .subtype) size) out out′ r
+      → Lined (packetText arrival size (told read)) out out′ r
+  unfolding pick
+  taken-line e l = rw e l
+
+  pub turned-away-line : {n : ℕ} → read ≡ variants.Refused n → Lined (turnedAwayLine arrival n size) out out′ r
+      → Lined (packetText arrival size (told read)) out out′ r
+  unfolding pick
+  turned-away-line e l = rw e l

@@ -6,6 +6,8 @@ use lib.ListN.{length}
 use lib.Dec.{ltb}
 use Rattle.octets.specs.Parts.{overlay, written}
 use Rattle.octets.specs.Pick.{pick}
+use Rattle.answer.specs.Told.{Told}
+use Rattle.packet.specs.declared.Packet.{Packet}
 
 -- The decimal digits of a number below ten to the power k.
 abbrev pub decimalBelow : ℕ → ℕ → List ℕ
@@ -51,6 +53,28 @@ packetLine arrival apid sequence service subtype size =
 -- Q, arrival, refusal, length.
 unfoldable pub turnedAwayLine : ℕ → ℕ → ℕ → List ℕ
 turnedAwayLine arrival refusal size = line (81 ∷ []) (decimal arrival ∷ decimal refusal ∷ decimal size ∷ [])
+
+-- A packet's line: what the packet reader told of it.
+abbrev pub packetText : ℕ → ℕ → Told Packet → List ℕ
+packetText arrival size t =
+    pick (t .accepted)
+    (packetLine arrival (t .fields .apid) (t .fields .sequence .0) (t .fields .service) (t .fields .subtype) size)
+    (turnedAwayLine arrival (t .refusal) size)
+
+-- "arrival answer channel lost master packets"
+abbrev pub header : List ℕ
+header =
+    line (97 ∷ 114 ∷ 114 ∷ 105 ∷ 118 ∷ 97 ∷ 108 ∷ [])
+    ((97 ∷ 110 ∷ 115 ∷ 119 ∷ 101 ∷ 114 ∷ [])
+    ∷ (99 ∷ 104 ∷ 97 ∷ 110 ∷ 110 ∷ 101 ∷ 108 ∷ [])
+    ∷ (108 ∷ 111 ∷ 115 ∷ 116 ∷ [])
+    ∷ (109 ∷ 97 ∷ 115 ∷ 116 ∷ 101 ∷ 114 ∷ [])
+    ∷ (112 ∷ 97 ∷ 99 ∷ 107 ∷ 101 ∷ 116 ∷ 115 ∷ [])
+    ∷ [])
+
+-- "bad recording"
+abbrev pub badRecording : List ℕ
+badRecording = line (98 ∷ 97 ∷ 100 ∷ []) ((114 ∷ 101 ∷ 99 ∷ 111 ∷ 114 ∷ 100 ∷ 105 ∷ 110 ∷ 103 ∷ []) ∷ [])
 
 -- A text was laid into out from index at on, and r is the index behind it.
 pub record Laid (text out : List ℕ) (at : ℕ) (out′ : List ℕ) (r : ℕ) : Type 0 where

@@ -2,11 +2,16 @@
 // Nothing here reads or writes a file: a window is octets read and not yet used.
 ghost use mathlib.Core.Path.{_≡_};
 ghost use mathlib.Core.List.{[], _∷_, _++_};
+ghost use mathlib.Core.Bool.{false};
 ghost use Prim.Native.Nat.{_+_, _≤_};
 ghost use lib.ListN.{length};
 ghost use Rattle.octets.specs.Parts.{overlay};
+ghost use Rattle.answer.specs.Writer.{Wrote};
+ghost use Rattle.packet.specs.Packet.{told as toldPacket};
 ghost use Rattle.recording.specs.Sections.{told, settingsAt, countAt, frameAt};
-ghost use Rattle.recording.specs.Text.{decimal, Laid, Lined, acceptedLine, refusedLine, packetLine, turnedAwayLine};
+ghost use Rattle.recording.specs.Text.{decimal, Laid, Lined, acceptedLine, refusedLine, packetLine, turnedAwayLine, packetText, header, badRecording};
+use answer::Written;
+use packet::PacketRead;
 
 // What stands at a window's start.
 pub enum Section {
@@ -196,4 +201,55 @@ fn turned_away(out: &mut [u8], arrival: u32, refusal: u16, size: u32) -> usize
     let a = number(out, start, arrival, b' ');
     let b = number(out, a, refusal as u32, b' ');
     number(out, b, size, b'\n')
+}
+
+// Puts a text at the start of out and answers its length; else 50, and out stays.
+fn fit(out: &mut [u8], text: &[u8]) -> Written
+    ensures { λ r. ⌜ Wrote false (now (text .entry)) (now (out .entry)) r (now (out .exit)) ⌝ }
+{
+    if out.len() < text.len() {
+        return Written::Refused(answer::OUTPUT_SHORT);
+    }
+    octets::put(out, 0, text);
+    Written::Length(text.len())
+}
+
+// The listing's first line at the start of out.
+pub fn header_line(out: &mut [u8]) -> Written
+    ensures { λ r. ⌜ Wrote false header (now (out .entry)) r (now (out .exit)) ⌝ }
+{
+    fit(out, b"arrival answer channel lost master packets\n")
+}
+
+// The line of a bad recording at the start of out.
+pub fn bad_line(out: &mut [u8]) -> Written
+    ensures { λ r. ⌜ Wrote false badRecording (now (out .entry)) r (now (out .exit)) ⌝ }
+{
+    fit(out, b"bad recording\n")
+}
+
+// Puts a packet's line at the start of out, and answers its length.
+fn lay_packet(out: &mut [u8], arrival: u32, size: u16, read: PacketRead) -> usize
+    requires { ⌜ 80 ≤ length (now out) ⌝ }
+    ensures { λ r. ⌜ Lined (packetText arrival size (toldPacket read)) (now (out .entry)) (now (out .exit)) r ⌝ }
+{
+    match read {
+        PacketRead::Packet(p) => {
+            let sequence = p.sequence;
+            taken(out, arrival, p.apid, sequence.0, p.service, p.subtype, size as u32)
+        }
+        PacketRead::Refused(refusal) => turned_away(out, arrival, refusal, size as u32),
+    }
+}
+
+// The line of a packet of that size that the packet reader answered so, at the start of out.
+pub fn packet_line(out: &mut [u8], arrival: u32, size: u16, read: PacketRead) -> Written
+    ensures { λ r. ⌜ Wrote false (packetText arrival size (toldPacket read)) (now (out .entry)) r (now (out .exit)) ⌝ }
+{
+    if 80 <= out.len() {
+        return Written::Length(lay_packet(out, arrival, size, read));
+    }
+    let mut space = [0u8; 80];
+    let n = lay_packet(&mut space, arrival, size, read);
+    fit(out, &space[..n])
 }
