@@ -2,3 +2,4 @@ pub mod Decimal
 pub mod Lines
 pub mod Pieces
 pub mod Sections
+pub mod Unique
