@@ -211,8 +211,8 @@ step-bounded a c f o l =
     let r : Room (length (c .held .octets)) (length (f .octets)) w = loss-room a n (c .inStep) (c .held) (f .pointer) (f .octets) o in
     record {
       sound = r .sound;
-      held = sound-held (w .inStep) (w .held .octets) (r .sound);
+      held = omega (arith, sound-held (w .inStep) (w .held .octets) (r .sound));
       good = r .good;
-      packets = at-most-16 (length (f .octets)) (bare (w .packets)) (w .held .octets) l (r .few);
+      packets = omega (arith, at-most-16 (length (f .octets)) (bare (w .packets)) (w .held .octets) l (r .few));
       octets = omega (arith, r .octets, sound-held (c .inStep) (c .held .octets) o);
     }
