@@ -16,6 +16,7 @@ both-sides = record {
   long = refl;
   skip = refl;
   rest = refl;
+  left = refl;
   over = refl;
   greatest = refl;
   sixteen = refl;

@@ -60,6 +60,7 @@ pub record BothSides : Type 0 where
   pub skip : replies (frame 0 255 one ∷ frame 1 0 one ∷ []) ≡ reply 0 [] ∷ reply 0 (out 2 one ∷ []) ∷ []
   -- Rule 5. A length of 15 or 252 begun here drops the rest, and what came before stays handed out; 251 passes.
   pub rest : replies (frame 0 0 (one ++ packetOf 15 2 ++ one) ∷ []) ≡ reply 0 (out 1 one ∷ []) ∷ []
+  pub left : step 1 fresh (frame 0 0 (packetOf 15 2)) .next .inStep ≡ false
   pub over : replies (frame 0 0 (one ++ packetOf 252 2) ∷ frame 1 255 (drop 200 (packetOf 252 2)) ∷ []) ≡ reply 0 (out 1 one ∷ []) ∷ reply 0 [] ∷ []
   pub greatest : replies (frame 0 0 (packetOf 251 2) ∷ []) ≡ reply 0 (out 1 (packetOf 251 2) ∷ []) ∷ []
   -- Most packets of one frame: one held but for its last octet, and fifteen more.
