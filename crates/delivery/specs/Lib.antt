@@ -1,0 +1,4 @@
+pub mod Stream
+pub mod Expected
+pub mod Delivered
+pub mod Channels
