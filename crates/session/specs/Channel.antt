@@ -15,13 +15,16 @@ abbrev pub lastOf : Bool → ℕ → Option ℕ
 lastOf true n = some n
 lastOf false n = none
 
+abbrev pub heldOf : List ℕ → rules.Held
+heldOf octets = record { octets = octets }
+
 -- The channel that the rules speak of: of the array's octets, the first `length` are held.
 unfoldable pub view : Channel → rules.Channel
 view c =
     record {
       last = lastOf (c .heard) (c .last .0);
       inStep = c .instep;
-      held = record { octets = take (c .length) (c .held) };
+      held = heldOf (take (c .length) (c .held));
     }
 
 abbrev pub heardOf : Option ℕ → Bool
@@ -42,6 +45,10 @@ stored c =
       length = length (c .held .octets);
       held = c .held .octets ++ replicate (250 - length (c .held .octets)) 0;
     }
+
+-- After a frame with this count.
+abbrev pub channelOf : ℕ → Bool → rules.Held → rules.Channel
+channelOf count inStep held = record { last = some count; inStep = inStep; held = held }
 
 abbrev pub fresh : Channel
 fresh = stored rules.fresh

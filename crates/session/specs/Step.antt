@@ -97,9 +97,13 @@ outcome s frame octets lengths =
     (pick (eqb (s .arrival) 4294967295) (refused s no.arrivals)
     (heeded (counted s) frame (readFrame (s .t) frame))))
 
--- The contract of a step: out and list are the octets and lengths lent, out′ and list′ the same afterwards.
-pub record Steps (s : Session) (frame out list : List ℕ) (r : Stepped) (out′ list′ : List ℕ) : Type 0 where
-  pub session : r .session ≡ outcome s frame (length out) (length list) .session
-  pub answers : told (r .answer) ≡ outcome s frame (length out) (length list) .answer
-  pub octets : out′ ≡ written (outcome s frame (length out) (length list) .octets) out
-  pub lengths : list′ ≡ written (outcome s frame (length out) (length list) .lengths) list
+-- What is answered and left by an outcome o: out and list are the octets and lengths lent, out′ and list′ the same afterwards.
+pub record Gives (o : Outcome) (r : Stepped) (out list out′ list′ : List ℕ) : Type 0 where
+  pub session : r .session ≡ o .session
+  pub answers : told (r .answer) ≡ o .answer
+  pub octets : out′ ≡ written (o .octets) out
+  pub lengths : list′ ≡ written (o .lengths) list
+
+-- The contract of a step.
+abbrev pub Steps : Session → List ℕ → List ℕ → List ℕ → Stepped → List ℕ → List ℕ → Type 0
+Steps s frame out list r out′ list′ = Gives (outcome s frame (length out) (length list)) r out list out′ list′
