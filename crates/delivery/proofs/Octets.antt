@@ -9,7 +9,7 @@ use lib.Seq.{slice}
 use Rattle.rules.specs.Channel.{Piece, Held, nothing, grown, Handed, given, Work, Status, unfinished, whole, status, push, feed, holding, outOfStep, settle}
 use Rattle.rules.specs.Packets.{Good, AllGood, joined}
 use Rattle.delivery.proofs.Sending.{restAfter, packetsAfter}
-use Rattle.delivery.specs.Expected.{Fate, isGot, arrivalOf, allGot, arrived, nowhere, when, expectedFrom}
+use Rattle.delivery.specs.Expected.{Fate, isGot, arrivalOf, allGot, arrived, nowhere, expectedFrom}
 use Rattle.rules.proofs.Status.{status-whole, status-unfinished}
 use Rattle.delivery.proofs.Walk.{one, walk, begin, expected-none}
 

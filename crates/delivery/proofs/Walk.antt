@@ -9,8 +9,9 @@ use lib.Seq.{slice}
 use lib.Dec.{leb, ltb, leb·zero, leb·suc-zero, leb·suc-suc}
 use Rattle.rules.specs.Channel.{Piece, Handed, Work, Status, unfinished, whole, status, push, feed, holding, outOfStep, settle}
 use Rattle.rules.specs.Packets.{Good, AllGood, joined}
+use Rattle.delivery.specs.Sender.{when}
 use Rattle.delivery.proofs.Sending.{restAfter, packetsAfter}
-use Rattle.delivery.specs.Expected.{Fate, isGot, arrivalOf, allGot, arrived, nowhere, when, expectedFrom}
+use Rattle.delivery.specs.Expected.{Fate, isGot, arrivalOf, allGot, arrived, nowhere, expectedFrom}
 
 -- the packet p, begun in frame i, was sent in the frames from i to j
 abbrev pub one : List Fate → ℕ → List ℕ → ℕ → List Handed

@@ -7,6 +7,7 @@ use lib.ListN.{length, getD, drop, replicate}
 use lib.Seq.{slice}
 use lib.Dec.{leb, eqb}
 use Rattle.rules.specs.Channel.{Piece, Handed}
+use Rattle.delivery.specs.Sender.{when}
 
 -- A frame of the channel as sent, with its fate: lost, or offered to the session under an arrival number.
 pub data Fate : Type 0 where
@@ -45,11 +46,6 @@ allGot (s ∷ ss) = isGot s && allGot ss
 -- Every frame of the channel from number i to number j arrived, empty and raw ones too.
 abbrev pub arrived : List Fate → ℕ → ℕ → Bool
 arrived ss i j = allGot (slice i (suc j) ss)
-
--- One element if so, else none.
-abbrev pub when : {A : Type 0} → Bool → A → List A
-when true x = x ∷ []
-when false x = []
 
 -- The packets in order, each taking the owners of its octets from the front. A packet is expected if every frame from its first octet's
 -- to its last octet's arrived, under the arrival number of the last; one that was not sent to its end ends the list.

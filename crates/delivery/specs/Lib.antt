@@ -1,4 +1,8 @@
 pub mod Stream
+pub mod Sender
+pub mod Link
 pub mod Expected
 pub mod Delivered
+pub mod Run
+pub mod Demand
 pub mod Channels
