@@ -4,3 +4,7 @@ pub mod Counts
 pub mod Walk
 pub mod Octets
 pub mod OneChannel
+pub mod Calls
+pub mod Projection
+pub mod Recording
+pub mod NothingLost

@@ -6,3 +6,4 @@ pub mod Delivered
 pub mod Run
 pub mod Demand
 pub mod Channels
+pub mod Further

@@ -40,10 +40,10 @@ when false x = []
 abbrev pub ofChannel : ℕ → Framed → Bool
 ofChannel v f = eqb (f .fields .channel) v
 
+-- The channel counts, pointers and data of the frames of channel v.
 abbrev pub pieceOf : Framed → Piece
 pieceOf f = record { count = f .fields .count .0; pointer = f .fields .pointer; octets = f .«data» }
 
--- The channel counts, pointers and data of the frames of channel v.
 abbrev pub piecesOf : ℕ → List Framed → List Piece
 piecesOf v [] = []
 piecesOf v (f ∷ fs) = when (ofChannel v f) (pieceOf f) ++ piecesOf v fs
