@@ -8,3 +8,5 @@ pub mod Calls
 pub mod Projection
 pub mod Recording
 pub mod NothingLost
+pub mod FewEach
+pub mod Masters

@@ -27,9 +27,10 @@ use Rattle.delivery.specs.Delivered.{Delivered}
 use Rattle.delivery.specs.Run.{Call, Runs, Room, frameOf, reportsOf}
 use Rattle.delivery.specs.Channels.{Offer, offered, run, offerOf, offersOf}
 use Rattle.delivery.specs.Demand.{Reception, Demand3}
+use Rattle.delivery.specs.Further.{Independent}
 use Rattle.delivery.proofs.OneChannel.{AllShort, delivery}
 use Rattle.delivery.proofs.Calls.{fresh-viewed}
-use Rattle.delivery.proofs.Projection.{Ready, projects}
+use Rattle.delivery.proofs.Projection.{Reached, Ready, projects}
 
 -- ---- fates
 
@@ -104,16 +105,25 @@ opening-is : (t last : ℕ) → t ≤ 8 → opening t last .session ≡ opened t
 unfolding opening pick
 opening-is t last l = rw (le-ltb 8 t l)
 
-pub opened-ready : (stays : StaysSound) (t last v : ℕ) → t ≤ 8 → v < 8 → Ready stays t last v (opened t last)
-opened-ready stays t last v k l = record { reached = record { steps = []; is = sym (opening-is t last k) }; time = refl; there = l }
+pub opened-reached : (t last : ℕ) → t ≤ 8 → Reached t last (opened t last)
+opened-reached t last k = record { steps = []; is = sym (opening-is t last k) }
+
+pub opened-runs : (t last : ℕ) → t ≤ 8 → (o : Opened) → Opens t last o → (calls : List Call) → Runs (o .session) calls → Runs (opened t last) calls
+opened-runs t last k o h calls w = subst (λ (z : Session). Runs z calls) (h .session ∙ opening-is t last k) w
 
 -- a run from an opening, for channel v
 pub from-opening : (stays : StaysSound) (t last v : ℕ) → t ≤ 8 → v < 8 → (o : Opened) → Opens t last o → (calls : List Call) → Runs (o .session) calls → Room calls
     → reportsOf v calls ≡ run rules.fresh (offersOf t v last (map frameOf calls))
 from-opening stays t last v k l o h calls w room =
-    projects stays t last v calls (opened t last) (opened-ready stays t last v k l)
-    (subst (λ (z : Session). Runs z calls) (h .session ∙ opening-is t last k) w) room
+    projects stays t last v calls (opened t last) (record { reached = opened-reached t last k; time = refl; there = l })
+    (opened-runs t last k o h calls w) room
     ∙ ap (λ (c : rules.Channel). run c (offersOf t v last (map frameOf calls))) (fresh-viewed v l)
+
+pub independent : StaysSound → Independent
+independent stays t last last′ v o o′ calls calls′ k l h w room h′ w′ room′ e =
+    from-opening stays t last v k l o h calls w room
+    ∙ ap (run rules.fresh) e
+    ∙ sym (from-opening stays t last′ v k l o′ h′ calls′ w′ room′)
 
 module _ (back : ReadsBack) (accepts : Accepts) (stays : StaysSound) where
   pub demand-3 : Demand3
