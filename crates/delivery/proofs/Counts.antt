@@ -9,7 +9,7 @@ use Rattle.counts.specs.Gap.{gap}
 use Rattle.counts.proofs.Laws.{gap-on}
 use Rattle.rules.specs.Channel.{Held, nothing, answer, Piece, Channel, Work, follow, afterLoss, lostSince, step, fresh}
 use Rattle.delivery.specs.Stream.{nextCount}
-use Rattle.delivery.specs.Expected.{Fate, lost, got, piece, oneMore, toldAs, lossesAfter, expectedLosses, AtMost}
+use Rattle.delivery.specs.Expected.{Fate, lost, got, piece, oneMore, toldAs, lossesAfter, expectedLosses, AtMost, mostLost}
 use Rattle.delivery.specs.Delivered.{Report, losses}
 use Rattle.delivery.specs.Channels.{offered, run}
 
@@ -62,19 +62,19 @@ abbrev at : ℕ → Bool → Held → Channel
 at l b h = record { last = some l; inStep = b; held = h }
 
 pub after-first : (ss : List Fate) (l d c : ℕ) (b : Bool) (h : Held) → l < 256 → c ≡ (l + 1 + d) % 256
-    → Counted c ss → AtMost 255 (lossesAfter (some d) ss) → run (at l b h) (offered ss) ≡ eager (some d) (still d b) (kept d h) ss
+    → Counted c ss → AtMost mostLost (lossesAfter (some d) ss) → run (at l b h) (offered ss) ≡ eager (some d) (still d b) (kept d h) ss
 after-first [] l d c b h hl hc k m = refl
 after-first (lost f ∷ ss) l d c b h hl hc k m =
     after-first ss l (suc d) (nextCount c) b h hl (omega arith) (k .1) m
 after-first (got a f ∷ ss) l d c b h hl hc k m =
     let n : ℕ = f .count in
     let w : Work = follow a (still d b) (kept d h) (f .pointer) (f .octets) in
-    let e : lostSince (some l) n ≡ d = lost-is l d n (m .0) (k .0 ∙ hc) in
+    let e : lostSince (some l) n ≡ d = lost-is l d n (omega (arith, m .0)) (k .0 ∙ hc) in
     let ih : run (at n (w .inStep) (w .held)) (offered ss) ≡ eager (some 0) (w .inStep) (w .held) ss =
     after-first ss n 0 (nextCount c) (w .inStep) (w .held) (omega (arith, k .0)) (omega (arith, k .0)) (k .1) (m .1) in
     rw (step-is a (at l b h) f d e, ih)
 
-pub counts : (ss : List Fate) (c : ℕ) → c < 256 → Counted c ss → AtMost 255 (expectedLosses ss)
+pub counts : (ss : List Fate) (c : ℕ) → c < 256 → Counted c ss → AtMost mostLost (expectedLosses ss)
     → run fresh (offered ss) ≡ eager none false nothing ss
 unfolding lostSince
 counts [] c hc k m = refl

@@ -10,3 +10,7 @@ pub mod Recording
 pub mod NothingLost
 pub mod FewEach
 pub mod Masters
+pub mod Corners
+pub mod Shams
+pub mod Lending
+pub mod Witness

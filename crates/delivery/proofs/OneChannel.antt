@@ -14,7 +14,7 @@ use Rattle.rules.specs.Packets.{Good, AllGood, joined}
 use Rattle.rules.proofs.Status.{Order, upTo, past, order}
 use Rattle.delivery.specs.Stream.{Choice, raw, next, nextCount, written}
 use Rattle.delivery.proofs.Sending.{written-cut, restAfter, packetsAfter, nextPiece, cutInto}
-use Rattle.delivery.specs.Expected.{Fate, lost, got, piece, isGot, arrivalOf, allGot, arrived, nowhere, carries, owners, expectedFrom, expected, expectedLosses, AtMost, oneMore}
+use Rattle.delivery.specs.Expected.{Fate, lost, got, piece, isGot, arrivalOf, allGot, arrived, nowhere, carries, owners, expectedFrom, expected, expectedLosses, AtMost, mostLost, oneMore}
 use Rattle.delivery.specs.Delivered.{Delivered, handed, losses}
 use Rattle.delivery.specs.Channels.{offered, run}
 use Rattle.delivery.proofs.Facts.{nil-cons, got-step, drop-suc, drop-get, drop-lt, fits-between, fits-held, not-raw, pointer-none, pointer-some, carries-next}
@@ -235,7 +235,7 @@ counted (s ∷ t) (next n ∷ cs) c r ps e =
 -- Demand 3 on one channel: packets ps, cut into frames by the choices cs from the count c on, each frame lost or offered under an
 -- arrival number, at most 255 lost between two arrivals.
 pub delivery : (ps : List (List ℕ)) (cs : List Choice) (c : ℕ) (ss : List Fate)
-    → AllGood ps → c < 256 → map piece ss ≡ written ps 0 c cs → AllShort (map piece ss) → AtMost 255 (expectedLosses ss)
+    → AllGood ps → c < 256 → map piece ss ≡ written ps 0 c cs → AllShort (map piece ss) → AtMost mostLost (expectedLosses ss)
     → Delivered ps ss (run fresh (offered ss))
 delivery ps cs c ss gs hc e sz m =
     let e′ : map piece ss ≡ cutInto c [] ps cs = e ∙ written-cut ps cs 0 c [] ps gs refl refl in

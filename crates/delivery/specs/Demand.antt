@@ -8,7 +8,7 @@ use Rattle.session.specs.declared.Opened.{Opened}
 use Rattle.session.specs.Open.{Opens}
 use Rattle.delivery.specs.Sender.{Framed, octetsOf, Sender}
 use Rattle.delivery.specs.Link.{kept, fates}
-use Rattle.delivery.specs.Expected.{expectedLosses, AtMost}
+use Rattle.delivery.specs.Expected.{expectedLosses, AtMost, mostLost}
 use Rattle.delivery.specs.Delivered.{Delivered}
 use Rattle.delivery.specs.Run.{Call, Runs, Room, frameOf, reportsOf}
 
@@ -25,7 +25,7 @@ pub record Reception : Type 0 where
   pub opened : Opened
   pub opens : Opens t last opened
   -- The link loses at most 255 of a channel's frames between two arrivals on it.
-  pub gaps : (v : ℕ) → v < 8 → AtMost 255 (expectedLosses (fates v last link frames))
+  pub gaps : (v : ℕ) → v < 8 → AtMost mostLost (expectedLosses (fates v last link frames))
   -- The session is offered the rest: the octets that the frame writer gives, each by a call that does what `Session::step` promises.
   pub calls : List Call
   pub offers : map frameOf calls ≡ map (octetsOf t) (kept link frames)

@@ -87,3 +87,7 @@ expectedLosses ss = lossesAfter none ss
 abbrev pub AtMost : ℕ → List Loss → Type 0
 AtMost m [] = Unit {0}
 AtMost m (l ∷ ls) = (l .lost ≤ m) × AtMost m ls
+
+-- The most frames of a channel that may be lost between two arrivals on it: a count of one octet shows no more.
+abbrev pub mostLost : ℕ
+mostLost = 255

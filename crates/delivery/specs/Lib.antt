@@ -7,3 +7,6 @@ pub mod Run
 pub mod Demand
 pub mod Channels
 pub mod Further
+pub mod Corners
+pub mod Shams
+pub mod Witness
