@@ -11,6 +11,7 @@ use counts::ChannelCount;
 use counts::MasterCount;
 
 pub(crate) const CONTROL: u8 = 0x03;
+
 pub(crate) const PROTOCOL: u8 = 0xf0;
 
 // Whether a frame of n octets is too short or too long: refusal 10.
