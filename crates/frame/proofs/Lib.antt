@@ -1,2 +1,6 @@
+pub mod Accepts
+pub mod AddressTrip
 pub mod Laying
 pub mod Reader
+pub mod ReadsBack
+pub mod WritesBack
