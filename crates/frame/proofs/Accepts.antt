@@ -55,8 +55,7 @@ passed t s f h =
     let d = head-facts (addressWrong (take 7 s) 0) (addressWrong (take 7 (drop 7 s)) 1) (at s 14) (at s 15) (h₄ .0) in
     let b : (23 + t ≤ length s) × (length s ≤ 274) = (let b = h₂ .0 in search facts) in
     let v : (at s 16 / 64 ≡ 0) × (at s 16 % 8 ≡ 0) = (let v = h₅ .0 in search facts) in
-    let g : (statusOf t s / 16 ≡ flagOf t) × (statusOf t s / 4 % 4 ≡ 0) = (let g = h₆ .0 in search facts) in
-    (
+    let g : (statusOf t s / 16 ≡ flagOf t) × (statusOf t s / 4 % 4 ≡ 0) = (let g = h₆ .0 in search facts) in (
       record {
         time = ltb-false 8 t (h₁ .0);
         least = b .0;
@@ -80,9 +79,10 @@ pub pointer-right : (pointer n : ℕ) → pointerWrong pointer n ≡ false → P
 unfolding pointerWrong
 pointer-right pointer n h =
     let raw : (eqb pointer 254 && not (eqb n 0)) ≡ true → (pointer ≡ 254) × (0 < n) =
-        λ p. (
-          eqb-true pointer 254 (and-true-left (eqb pointer 254) _ p),
-          (let z = eqb-false n 0 (not-true _ (and-true-right (eqb pointer 254) _ p)) in omega arith)) in
+    λ p. (
+      eqb-true pointer 254 (and-true-left (eqb pointer 254) _ p),
+      (let z = eqb-false n 0 (not-true _ (and-true-right (eqb pointer 254) _ p)) in omega arith),
+    ) in
     ⊎-elim
     (λ p. ⊎-elim (λ q. inl (ltb-true pointer n q)) (λ q. inr (inl (eqb-true pointer 255 q))) (or-true (ltb pointer n) _ p))
     (λ p. inr (inr (raw p)))

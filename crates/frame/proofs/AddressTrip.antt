@@ -71,7 +71,7 @@ parts n (suc (suc m)) h l = absurd (omega arith)
 no-space : (x : ℕ) → sign x ≡ true → eqb (2 * x) 64 ≡ false
 no-space x h =
     let no : 2 * x ≡ 64 → ⊥ =
-        λ e. let z : x ≡ 32 = omega arith in true≢false (sym h ∙ ap sign z) in
+    λ e. let z : x ≡ 32 = omega arith in true≢false (sym h ∙ ap sign z) in
     ne-eqb _ _ no
 
 module _ (a : Address) (last : ℕ) (callsign : callsignWrong (a .callsign) ≡ false) (ssid : a .ssid ≤ 15) (low : last ≤ 1) where
@@ -81,7 +81,18 @@ module _ (a : Address) (last : ℕ) (callsign : callsignWrong (a .callsign) ≡ 
       let k = parts (a .ssid) last ssid low in
       let r = right (a .callsign) callsign in
       simp (
-        half, even, k .top, k .low, eq-eqb last last refl, r .first, no-space (a .callsign .0) (r .first), r .second, r .third, r .fourth, r .fifth, r .sixth,
+        half,
+        even,
+        k .top,
+        k .low,
+        eq-eqb last last refl,
+        r .first,
+        no-space (a .callsign .0) (r .first),
+        r .second,
+        r .third,
+        r .fourth,
+        r .fifth,
+        r .sixth,
       )
 
   pub octets-back : addressOf (addressOctets a last) ≡ a
@@ -167,14 +178,14 @@ begins s last p false q =
     let s₄ = space-next (at s 3 / 2) (at s 4 / 2) s₃ (p .fifth .follows) in
     let s₅ = space-next (at s 4 / 2) (at s 5 / 2) s₄ (p .sixth .follows) in
     let all : blank s ≡ true =
-        simp (
-          shifted (at s 0) (p .even) s₀,
-          shifted (at s 1) (p .second .even) s₁,
-          shifted (at s 2) (p .third .even) s₂,
-          shifted (at s 3) (p .fourth .even) s₃,
-          shifted (at s 4) (p .fifth .even) s₄,
-          shifted (at s 5) (p .sixth .even) s₅,
-        ) in
+    simp (
+      shifted (at s 0) (p .even) s₀,
+      shifted (at s 1) (p .second .even) s₁,
+      shifted (at s 2) (p .third .even) s₂,
+      shifted (at s 3) (p .fourth .even) s₃,
+      shifted (at s 4) (p .fifth .even) s₄,
+      shifted (at s 5) (p .sixth .even) s₅,
+    ) in
     absurd (true≢false (sym all ∙ p .filled))
 
 -- the callsign of a right address is right
@@ -213,13 +224,13 @@ octets-of s last n h =
     let z : 96 + 2 * (at s 6 / 2 % 16) + last ≡ at s 6 = omega (arith, p .bits, p .low) in
     let end : drop 7 s ≡ [] = drop-of-length-le s {i = 7} (omega arith) in
     let same : addressOctets (addressOf s) last ≡ run 0 7 s =
-        simp (
-          twice (at s 0) (p .even),
-          twice (at s 1) (p .second .even),
-          twice (at s 2) (p .third .even),
-          twice (at s 3) (p .fourth .even),
-          twice (at s 4) (p .fifth .even),
-          twice (at s 5) (p .sixth .even),
-          z,
-        ) in
+    simp (
+      twice (at s 0) (p .even),
+      twice (at s 1) (p .second .even),
+      twice (at s 2) (p .third .even),
+      twice (at s 3) (p .fourth .even),
+      twice (at s 4) (p .fifth .even),
+      twice (at s 5) (p .sixth .even),
+      z,
+    ) in
     same ∙ sym (run-is 7 0 s (omega arith) ∙ ap (λ (x : List ℕ). run 0 7 s ++ x) end)
