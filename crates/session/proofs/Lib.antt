@@ -1,0 +1,7 @@
+pub mod Fitting
+pub mod Following
+pub mod Going
+pub mod Joined
+pub mod Keeping
+pub mod Soundness
+pub mod Taking

@@ -40,7 +40,7 @@ impl Channel {
         ensures { λ r. ⌜ r ≡ channelUnsound self ⌝ }
     {
         let n = octets::wide(self.length);
-        let whole = octets::wide(self.held[4]) * 256 + octets::wide(self.held[5]) + 7;
+        let whole = octets::word(self.held[4], self.held[5]) as usize + 7;
         (250 < n)
             | (!self.instep & (0 < n))
             | ((6 <= n) & (!((16 <= whole) & (whole <= 251)) | (whole <= n)))
