@@ -108,19 +108,19 @@ module _ (held xs list₀ list : List ℕ) (packets at : ℕ) (g : Going held xs
       small = simp length-set (omega arith);
       same = simp length-set (g .same);
       rest =
-        drop-set-lt (packets + 1) list packets n (omega arith)
-        ∙ sym (drop-drop 1 packets list)
-        ∙ ap (drop 1) (g .rest)
-        ∙ drop-drop 1 packets list₀;
+          drop-set-lt (packets + 1) list packets n (omega arith)
+          ∙ sym (drop-drop 1 packets list)
+          ∙ ap (drop 1) (g .rest)
+          ∙ drop-drop 1 packets list₀;
       done = g .done ++ take n (drop at s) ∷ [];
       count = length-append (g .done) (take n (drop at s) ∷ []) ∙ ap (λ (k : ℕ). k + 1) (g .count);
       lengths =
-        map-append (g .done) (take n (drop at s))
-        ∙ simp (g .lengths, length-take-le n (drop at s) (size .there), add-one, take-suc-set list packets n l);
+          map-append (g .done) (take n (drop at s))
+          ∙ simp (g .lengths, length-take-le n (drop at s) (size .there), add-one, take-suc-set list packets n l);
       front =
-        joined-append (g .done) (take n (drop at s) ∷ [])
-        ∙ (simp (g .front, append-nil))
-        ∙ take-more at n s;
+          joined-append (g .done) (take n (drop at s) ∷ [])
+          ∙ (simp (g .front, append-nil))
+          ∙ take-more at n s;
       cont = cut-more;
     }
 

@@ -4,4 +4,5 @@ pub mod Going
 pub mod Joined
 pub mod Keeping
 pub mod Soundness
+pub mod Stepping
 pub mod Taking

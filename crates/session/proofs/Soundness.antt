@@ -80,9 +80,16 @@ wrong-held b n l = go (order 6 n)
     go (upTo h t) = rw (size-held n l h)
     go (past h t) = rw t
 
-pub held-most : (c : Channel) → channelUnsound c ≡ false → c .length ≤ 250
+-- above 250 comes first
+wrong-most : (b : Bool) (n : ℕ) (l : List ℕ) → heldWrong b n l ≡ false → n ≤ 250
 unfolding heldWrong
-held-most c e = ltb-false _ _ (or-left (ltb 250 (c .length)) _ ?)
+wrong-most b n l e =
+    ltb-false 250 n
+    (or-left (ltb 250 n) (not b && ltb 0 n)
+    (or-left (ltb 250 n || (not b && ltb 0 n)) (leb 6 n && (not (allowed (lengthIn l)) || leb (lengthIn l) n)) e))
+
+pub held-most : (c : Channel) → channelUnsound c ≡ false → c .length ≤ 250
+held-most c e = wrong-most (c .instep) (c .length) (c .held) e
 
 pub held-sound : (c : Channel) → length (c .held) ≡ 250 → channelUnsound c ≡ false → Sound (c .instep) (take (c .length) (c .held))
 held-sound c l e =

@@ -54,9 +54,9 @@ module _ (held xs out list : List ℕ) (t : Taken held xs out list) where
           → x ≡ stored (channelOf count b (heldOf rest)) → Works work count (record { channel = x; packets = r .packets }) out list out′ list′
       works x b rest i h e = record {
         channel =
-          e
-          ∙ ap (λ (l : List ℕ). stored (channelOf count b (heldOf l))) (sym (is-held ∙ h))
-          ∙ ap (λ (s : Bool). stored (channelOf count s (work .held))) (sym (in-step ∙ i));
+            e
+            ∙ ap (λ (l : List ℕ). stored (channelOf count b (heldOf l))) (sym (is-held ∙ h))
+            ∙ ap (λ (s : Bool). stored (channelOf count s (work .held))) (sym (in-step ∙ i));
         packets = k .packets ∙ ap length (sym packets) ∙ length-map (work .packets) (λ (p : Handed). p .packet);
         octets = o ∙ ap (λ (l : List ℕ). written l out) (sym (ap joined packets ∙ k .front));
         lengths = k .lengths ∙ ap (λ (l : List (List ℕ)). written (map length l) list) (sym packets);

@@ -1,78 +1,60 @@
+-- `Channel::followed` meets its contract.
 use native.Mathlib.Omega.{arith}
 use borrow.Author.Needs.{needs}
+use mathlib.Core.Path.{_≡_, refl, sym, ap, _∙_, subst}
+use mathlib.Core.Bool.{Bool, true, false}
+use mathlib.Core.List.{List, []}
+use Prim.Native.Nat.{ℕ, _≤_}
+use lib.ListN.{length, take}
+use lib.Seq.{length-take-le}
+use Rattle.rules.specs.Channel.{Work, follow}
+use Rattle.rules.specs.Bounds.{Sound}
+use Rattle.session.specs.Channel.{heldOf, view}
+use Rattle.session.specs.Kept.{Works}
+use Rattle.session.proofs.Following.{after-loss, no-loss}
+use Rattle.session.proofs.Soundness.{held-most, held-sound}
 use Rattle.session.proofs.Channel.followed.Statement.{statement}
 use Rattle.session.proofs.Channel.followed.Tie as tie
-use Rattle.session.proofs.Channel.followed.Reads as reads
-use Rattle.session.proofs.Channel.followed.Lts as lts
-use Rattle.octets.proofs.wide.Reads as wide-reads
-use Rattle.session.proofs.channels.follow.Reads as follow-reads
 
--- src/channels.rt:122:41
-array-share-prefix-held : tie.Need-array-share-prefix-held
-array-share-prefix-held c = ?
-
--- src/channels.rt:122:41
-slice-aggregate-follow : tie.Need-slice-aggregate-follow
-slice-aggregate-follow c = ?
-
--- src/channels.rt:122:13
 follow-requires : tie.Need-follow-requires
-follow-requires c κs = ?
+follow-requires c κs = record { sound = refl; heard = c .before .before .before .before .before .before .before .before .pre .heard }
 
--- src/channels.rt:122:13
-same-length : tie.Need-same-length
-same-length c = ?
-
--- src/channels.rt:122:13
-same-length-2 : tie.Need-same-length-2
-same-length-2 c = ?
-
--- src/channels.rt:122:13
 returns : tie.Need-returns
-returns c = ?
+unfolding view
+returns c n =
+    let a = c .before .before .before .before .before .before .before .before .before .before .before .before .before .args in
+    subst (λ (w : Work). Works w (a .count .0) (c .before .before .before .before .follow .result) (a .octets .now) (a .lengths .now) (c .before .before .before .before .follow .last .1 .1 .1 .1 .1 .0) (c .before .before .before .before .follow .last .1 .1 .1 .1 .1 .1 .0))
+    (sym (after-loss n (a .lost) (a .self .instep) (view (a .self) .held) (a .pointer) (a .«data» .now) (c .before .before .before .before .before .before .before .before .if1 .taken))) (c .before .before .before .before .follow .ensures n)
 
--- src/channels.rt:124:13
-wide-requires : tie.Need-wide-requires
-wide-requires c κs = ?
+-- the held octets lie in the array
+fits-in : (c : tie.After-wide) → c .wide .result ≤ length (c .before .before .before .before .before .before .args .self .held)
+fits-in c =
+    let m = held-most (c .before .before .before .before .before .before .args .self) (c .before .before .before .before .before .before .pre .sound) in
+    let l : length (c .before .before .before .before .before .before .args .self .held) ≡ 250 = search needs in
+    let e = c .wide .ensures in
+    omega arith
 
--- src/channels.rt:125:36
-array-share-prefix-held-2 : tie.Need-array-share-prefix-held-2
-array-share-prefix-held-2 c = ?
-
--- src/channels.rt:125:36
-slice-aggregate-follow-2 : tie.Need-slice-aggregate-follow-2
-slice-aggregate-follow-2 c = ?
-
--- src/channels.rt:125:9
 follow-requires-2 : tie.Need-follow-requires-2
-follow-requires-2 c κs = ?
+follow-requires-2 c κs =
+    let a = c .before .before .before .before .before .before .before .before .before .args in
+    let l : length (a .self .held) ≡ 250 = search needs in
+    record {
+      sound = subst (λ (k : ℕ). Sound (a .self .instep) (take k (a .self .held))) (sym (c .before .before .before .wide .ensures)) (held-sound (a .self) l (c .before .before .before .before .before .before .before .before .before .pre .sound));
+      heard = c .before .before .before .before .before .before .before .before .before .pre .heard;
+    }
 
--- src/channels.rt:108:5
-same-length-3 : tie.Need-same-length-3
-same-length-3 c = ?
-
--- src/channels.rt:108:5
-same-length-4 : tie.Need-same-length-4
-same-length-4 c = ?
-
--- src/channels.rt:108:5
 returns-2 : tie.Need-returns-2
-returns-2 c = ?
+unfolding view
+returns-2 c n =
+    let a = c .before .before .before .before .before .before .before .before .before .before .before .before .before .before .args in
+    subst (λ (w : Work). Works w (a .count .0) (c .before .before .before .before .follow2 .result) (a .octets .now) (a .lengths .now) (c .before .before .before .before .follow2 .last .1 .1 .1 .1 .1 .0) (c .before .before .before .before .follow2 .last .1 .1 .1 .1 .1 .1 .0))
+    (ap (λ (k : ℕ). follow n (a .self .instep) (heldOf (take k (a .self .held))) (a .pointer) (a .«data» .now)) (c .before .before .before .before .before .before .before .before .wide .ensures)
+    ∙ sym (no-loss n (a .lost) (a .self .instep) (view (a .self) .held) (a .pointer) (a .«data» .now) (c .before .before .before .before .before .before .before .before .before .if1 .left)))
+    (c .before .before .before .before .follow2 .ensures n)
 
 pub followed-spec : {M : Type 1} → statement M
 followed-spec =
     tie.close
     (tie.spec
-    array-share-prefix-held
-    slice-aggregate-follow
-    follow-requires
-    same-length
-    same-length-2
-    returns
-    wide-requires
-    array-share-prefix-held-2
-    slice-aggregate-follow-2
-    follow-requires-2
-    same-length-3
-    same-length-4
-    returns-2)
+    (λ c. search needs) (λ c. search needs) follow-requires (λ c. search needs) (λ c. search needs) returns (λ c κs. search needs)
+    fits-in (λ c. sym (length-take-le _ _ (fits-in (c .before)))) follow-requires-2 (λ c. search needs) (λ c. search needs) returns-2)

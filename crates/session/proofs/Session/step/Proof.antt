@@ -1,106 +1,55 @@
+-- `Session::step` meets its contract.
 use native.Mathlib.Omega.{arith}
 use borrow.Author.Needs.{needs}
+use mathlib.Core.Path.{_≡_, sym, ap, _∙_, subst}
+use mathlib.Core.List.{List}
+use Prim.Native.Nat.{ℕ, _-_, _≤_, _<_}
+use lib.ListN.{length}
+use Rattle.frame.specs.Frame.{told}
+use Rattle.frame.proofs.Accepted.{accepts}
+use Rattle.octets.proofs.Choices.{through}
+use Rattle.session.proofs.Stepping.{scant, not-sound, used-up, offered, not-read, read}
 use Rattle.session.proofs.Session.step.Statement.{statement}
 use Rattle.session.proofs.Session.step.Tie as tie
-use Rattle.session.proofs.Session.step.Reads as reads
-use Rattle.session.proofs.Session.step.Lts as lts
-use Rattle.frame.proofs.Frame.data.Reads as data-reads
-use Rattle.frame.proofs.Frame.read.Reads as read-reads
-use Rattle.session.proofs.Session.accepted.Reads as accepted-reads
-use Rattle.session.proofs.Session.refused.Reads as refused-reads
-use Rattle.session.proofs.Session.unsound.Reads as unsound-reads
 
--- src/lib.rt:178:13
-refused-requires : tie.Need-refused-requires
-refused-requires c κs = ?
-
--- src/lib.rt:178:13
 returns : tie.Need-returns
-returns c = ?
+returns c = let a = c .before .before .before .before .before .args in scant (a .self) (a .frame .now) (a .octets .now) (a .lengths .now) (c .refused .result) (c .before .if1 .taken) (c .refused .ensures)
 
--- src/lib.rt:180:12
-unsound-requires : tie.Need-unsound-requires
-unsound-requires c κs = ?
-
--- src/lib.rt:181:13
-refused-requires-2 : tie.Need-refused-requires-2
-refused-requires-2 c κs = ?
-
--- src/lib.rt:181:13
 returns-2 : tie.Need-returns-2
-returns-2 c = ?
+returns-2 c =
+    let a = c .before .before .before .before .before .before .before .args in
+    not-sound (a .self) (a .frame .now) (a .octets .now) (a .lengths .now) (c .before .before .before .if1 .left) (c .refused2 .result) (through (c .before .before .unsound .ensures) (c .before .if2 .taken)) (c .refused2 .ensures)
 
--- src/lib.rt:184:13
-refused-requires-3 : tie.Need-refused-requires-3
-refused-requires-3 c κs = ?
-
--- src/lib.rt:184:13
 returns-3 : tie.Need-returns-3
-returns-3 c = ?
+returns-3 c =
+    let a = c .before .before .before .before .before .before .before .before .before .args in
+    used-up (a .self) (a .frame .now) (a .octets .now) (a .lengths .now) (c .before .before .before .before .before .if1 .left) (through (c .before .before .before .before .unsound .ensures) (c .before .before .before .if2 .left)) (c .refused3 .result) (c .before .if3 .taken) (c .refused3 .ensures)
 
--- src/lib.rt:187:24
-add-next : tie.Need-add-next
-add-next c = ?
-
--- src/lib.rt:188:15
-read-requires : tie.Need-read-requires
-read-requires c κs = ?
-
--- src/lib.rt:189:32
-enum-known-refusal : tie.Need-enum-known-refusal
-enum-known-refusal c = ?
-
--- src/lib.rt:189:44
-refused-requires-4 : tie.Need-refused-requires-4
-refused-requires-4 c κs = ?
-
--- src/lib.rt:190:30
-enum-known-f : tie.Need-enum-known-f
-enum-known-f c = ?
-
--- src/lib.rt:191:21
-data-requires : tie.Need-data-requires
-data-requires c κs = ?
-
--- src/lib.rt:192:17
 accepted-requires : tie.Need-accepted-requires
-accepted-requires c κs = ?
+accepted-requires c κs =
+    let a = c .before .before .before .before .before .before .before .before .before .before .before .before .before .before .before .before .args in
+    offered (a .self) (a .frame .now) (a .octets .now) (a .lengths .now) (c .before .before .before .before .before .before .before .before .before .before .before .before .if1 .left) (through (c .before .before .before .before .before .before .before .before .before .before .before .unsound .ensures) (c .before .before .before .before .before .before .before .before .before .before .if2 .left))
+    (c .before .before .before .before .f .given .0 .0) (c .before .before .«data» .result .now)
+    (accepts (a .self .t) (a .frame .now) (c .before .before .before .before .f .given .0 .0) (sym (sym (ap told (c .before .before .before .before .f .given .1)) ∙ c .before .before .before .before .before .before .read .ensures)))
+    (c .before .before .«data» .ensures)
 
--- src/lib.rt:174:5
 returns-4 : tie.Need-returns-4
-returns-4 c = ?
+returns-4 c =
+    let a = c .before .before .before .before .before .before .before .before .before .before .before .before .before .before .args in
+    not-read (a .self) (a .frame .now) (a .octets .now) (a .lengths .now) (c .before .before .before .before .before .before .before .before .before .before .if1 .left) (through (c .before .before .before .before .before .before .before .before .before .unsound .ensures) (c .before .before .before .before .before .before .before .before .if2 .left)) (c .before .before .before .before .before .before .if3 .left) (c .before .before .refusal .given .0 .0) (c .refused4 .result)
+    (sym (ap told (c .before .before .refusal .given .1)) ∙ c .before .before .before .before .read .ensures) (c .refused4 .ensures)
 
--- src/lib.rt:174:5
-same-length : tie.Need-same-length
-same-length c = ?
-
--- src/lib.rt:174:5
-same-length-2 : tie.Need-same-length-2
-same-length-2 c = ?
-
--- src/lib.rt:174:5
 returns-5 : tie.Need-returns-5
-returns-5 c = ?
+returns-5 c =
+    let a = c .before .before .before .before .before .before .before .before .before .before .before .before .before .before .before .before .before .before .before .before .before .args in
+    read (a .self) (a .frame .now) (a .octets .now) (a .lengths .now) (c .before .before .before .before .before .before .before .before .before .before .before .before .before .before .before .before .before .if1 .left) (through (c .before .before .before .before .before .before .before .before .before .before .before .before .before .before .before .before .unsound .ensures) (c .before .before .before .before .before .before .before .before .before .before .before .before .before .before .before .if2 .left)) (c .before .before .before .before .before .before .before .before .before .before .before .before .before .if3 .left) (c .before .before .before .before .before .before .before .before .before .f .given .0 .0) (c .before .before .before .before .before .before .before .«data» .result .now)
+    (c .before .before .before .before .accepted .result) (c .before .before .before .before .accepted .last .1 .1 .1 .0) (c .before .before .before .before .accepted .last .1 .1 .1 .1 .0)
+    (sym (ap told (c .before .before .before .before .before .before .before .before .before .f .given .1)) ∙ c .before .before .before .before .before .before .before .before .before .before .before .read .ensures) (c .before .before .before .before .before .before .before .«data» .ensures) (c .before .before .before .before .accepted .ensures)
 
 pub step-spec : {M : Type 1} → statement M
 step-spec =
     tie.close
     (tie.spec
-    refused-requires
-    returns
-    unsound-requires
-    refused-requires-2
-    returns-2
-    refused-requires-3
-    returns-3
-    add-next
-    read-requires
-    enum-known-refusal
-    refused-requires-4
-    enum-known-f
-    data-requires
-    accepted-requires
-    returns-4
-    same-length
-    same-length-2
-    returns-5)
+    (λ c κs. search needs) returns (λ c κs. search needs) (λ c κs. search needs) returns-2 (λ c κs. search needs) returns-3
+    (λ c. search needs) (λ c κs. search needs) (λ c. search needs) (λ c κs. search needs) (λ c. search needs) (λ c κs. search needs)
+    accepted-requires returns-4 (λ c. search needs) (λ c. search needs) returns-5)
