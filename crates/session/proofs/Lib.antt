@@ -4,5 +4,8 @@ pub mod Going
 pub mod Joined
 pub mod Keeping
 pub mod Soundness
+pub mod Staying
 pub mod Stepping
 pub mod Taking
+pub mod Told
+pub mod Unique

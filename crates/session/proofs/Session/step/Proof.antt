@@ -6,7 +6,7 @@ use mathlib.Core.List.{List}
 use Prim.Native.Nat.{ℕ, _-_, _≤_, _<_}
 use lib.ListN.{length}
 use Rattle.frame.specs.Frame.{told}
-use Rattle.frame.proofs.Accepted.{accepts}
+use Rattle.frame.proofs.Accepts.{accepts}
 use Rattle.octets.proofs.Choices.{through}
 use Rattle.session.proofs.Stepping.{scant, not-sound, used-up, offered, not-read, read}
 use Rattle.session.proofs.Session.step.Statement.{statement}
