@@ -18,6 +18,7 @@ pub record Cuts (held xs : List ℕ) (r : Found) (list list′ : List ℕ) : Typ
   pub front : joined (cutOf (held ++ xs) .packets) ≡ take (r .octets) (held ++ xs)
   pub inStep : r .instep ≡ cutOf (held ++ xs) .inStep
   pub rest : r .instep ≡ true → cutOf (held ++ xs) .held ≡ drop (r .octets) (held ++ xs)
+  pub short : r .instep ≡ true → length (drop (r .octets) (held ++ xs)) ≤ 250
   pub dropped : r .instep ≡ false → cutOf (held ++ xs) .held ≡ []
   pub within : r .octets ≤ length held + length xs
   pub past : r .octets < length held → r .octets ≡ 0

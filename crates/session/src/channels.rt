@@ -40,7 +40,7 @@ impl Channel {
         ensures { λ r. ⌜ r ≡ channelUnsound self ⌝ }
     {
         let n = octets::wide(self.length);
-        let whole = octets::wide(self.held[4]) * 256 + octets::wide(self.held[5]) + 7;
+        let whole = octets::word(self.held[4], self.held[5]) as usize + 7;
         (250 < n)
             | (!self.instep & (0 < n))
             | ((6 <= n) & (!((16 <= whole) & (whole <= 251)) | (whole <= n)))
@@ -122,7 +122,15 @@ impl Channel {
             return follow(count, false, &held[..0], pointer, data, octets, lengths);
         }
         let k = octets::wide(self.length);
-        follow(count, self.instep, &held[..k], pointer, data, octets, lengths)
+        follow(
+            count,
+            self.instep,
+            &held[..k],
+            pointer,
+            data,
+            octets,
+            lengths,
+        )
     }
 }
 
@@ -161,7 +169,13 @@ fn follow(
 }
 
 // Rule 5: packets taken one after another out of the held octets and the data, and the rest held.
-fn take(count: ChannelCount, held: &[u8], data: &[u8], octets: &mut [u8], lengths: &mut [u16]) -> Followed
+fn take(
+    count: ChannelCount,
+    held: &[u8],
+    data: &[u8],
+    octets: &mut [u8],
+    lengths: &mut [u16],
+) -> Followed
     requires { ⌜ Taken (now held) (now «data») (now octets) (now lengths) ⌝ }
     ensures { λ r. ⌜ ((a : ℕ) → Works (feed a (holding (heldOf (now (held .entry))) []) (now («data» .entry))) (count .0) r (now (octets .entry)) (now (lengths .entry)) (now (octets .exit)) (now (lengths .exit))) ⌝ }
 {

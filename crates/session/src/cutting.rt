@@ -34,9 +34,9 @@ fn length_at(held: &[u8], data: &[u8], i: usize) -> usize
     requires { ⌜ i + 6 ≤ length (now held) + length (now «data») ⌝ }
     ensures { λ r. ⌜ r ≡ lengthIn (drop i (now (held .entry) ++ now («data» .entry))) ⌝ }
 {
-    let high = octets::wide(octet(held, data, i + 4));
-    let low = octets::wide(octet(held, data, i + 5));
-    high * 256 + low + 7
+    let high = octet(held, data, i + 4);
+    let low = octet(held, data, i + 5);
+    octets::word(high, low) as usize + 7
 }
 
 // Whether the pointer of a frame with n octets of data tells that a header starts at place.

@@ -1,13 +1,12 @@
-use native.Mathlib.Omega.{arith}
-use borrow.Author.Needs.{needs}
+-- `Channel::dropped` meets its contract.
+use mathlib.Core.Path.{refl}
+use Rattle.session.specs.Channel.{stored}
 use Rattle.session.proofs.Channel.dropped.Statement.{statement}
 use Rattle.session.proofs.Channel.dropped.Tie as tie
-use Rattle.session.proofs.Channel.dropped.Reads as reads
-use Rattle.session.proofs.Channel.dropped.Lts as lts
 
--- src/channels.rt:80:5
 returns : tie.Need-returns
-returns c = search needs
+unfolding stored
+returns c = refl
 
 pub dropped-spec : {M : Type 1} → statement M
 dropped-spec = tie.close (tie.spec returns)

@@ -1,13 +1,12 @@
-use native.Mathlib.Omega.{arith}
-use borrow.Author.Needs.{needs}
+-- `Channel::fresh` meets its contract.
+use mathlib.Core.Path.{refl}
+use Rattle.session.specs.Channel.{stored}
 use Rattle.session.proofs.Channel.fresh.Statement.{statement}
 use Rattle.session.proofs.Channel.fresh.Tie as tie
-use Rattle.session.proofs.Channel.fresh.Reads as reads
-use Rattle.session.proofs.Channel.fresh.Lts as lts
 
--- src/channels.rt:24:5
 returns : tie.Need-returns
-returns c = search needs
+unfolding stored
+returns c = refl
 
 pub fresh-spec : {M : Type 1} → statement M
 fresh-spec = tie.close (tie.spec returns)

@@ -1,26 +1,24 @@
-use native.Mathlib.Omega.{arith}
+-- `Session::open` meets its contract.
 use borrow.Author.Needs.{needs}
+use borrow.Author.Tests.{lt-ltb, le-ltb}
+use Rattle.octets.specs.Pick.{pick}
+use Rattle.session.specs.Open.{opening}
 use Rattle.session.proofs.Session.open.Statement.{statement}
 use Rattle.session.proofs.Session.open.Tie as tie
-use Rattle.session.proofs.Session.open.Reads as reads
-use Rattle.session.proofs.Session.open.Lts as lts
-use Rattle.session.proofs.Session.fresh.Reads as fresh-reads
 
--- src/lib.rt:87:17
-fresh-requires : tie.Need-fresh-requires
-fresh-requires c κs = search needs
-
--- src/lib.rt:88:13
 returns : tie.Need-returns
-returns c = search needs
+unfolding opening pick
+returns c = record {
+  session = simp (lt-ltb _ _ (c .before .if1 .taken)) (c .fresh .ensures);
+  answers = simp (lt-ltb _ _ (c .before .if1 .taken));
+}
 
--- src/lib.rt:93:13
-fresh-requires-2 : tie.Need-fresh-requires-2
-fresh-requires-2 c κs = search needs
-
--- src/lib.rt:83:5
 returns-2 : tie.Need-returns-2
-returns-2 c = search needs
+unfolding opening pick
+returns-2 c = record {
+  session = simp (le-ltb _ _ (c .before .if1 .left)) (c .fresh2 .ensures);
+  answers = simp (le-ltb _ _ (c .before .if1 .left));
+}
 
 pub open-spec : {M : Type 1} → statement M
-open-spec = tie.close (tie.spec fresh-requires returns fresh-requires-2 returns-2)
+open-spec = tie.close (tie.spec (λ c κs. search needs) returns (λ c κs. search needs) returns-2)

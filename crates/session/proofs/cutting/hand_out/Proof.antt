@@ -1,36 +1,27 @@
-use native.Mathlib.Omega.{arith}
+-- `cutting::hand_out` meets its contract.
 use borrow.Author.Needs.{needs}
+use mathlib.Core.Path.{sym}
+use lib.Seq.{length-take-le}
+use Rattle.session.proofs.Keeping.{front-none, front-part, front-some}
 use Rattle.session.proofs.cutting.hand_out.Statement.{statement}
 use Rattle.session.proofs.cutting.hand_out.Tie as tie
-use Rattle.session.proofs.cutting.hand_out.Reads as reads
-use Rattle.session.proofs.cutting.hand_out.Lts as lts
-use Rattle.octets.proofs.put.Reads as put-reads
 
--- src/cutting.rt:114:9
 returns : tie.Need-returns
-returns c = search needs
+returns c = front-none _ _ _ _ (c .before .before .before .before .pre) (c .if1 .taken)
 
--- src/cutting.rt:116:5
-put-requires : tie.Need-put-requires
-put-requires c κs = search needs
-
--- src/cutting.rt:117:25
 slice-aggregate-put : tie.Need-slice-aggregate-put
-slice-aggregate-put c = search needs
+slice-aggregate-put c =
+    sym
+    (length-take-le _ _
+    (front-part _ _ _ _ (c .before .before .before .before .before .before .before .before .before .before .pre)
+    (c .before .before .before .before .before .before .if1 .left)))
 
--- src/cutting.rt:117:5
-put-requires-2 : tie.Need-put-requires-2
-put-requires-2 c κs = search needs
-
--- src/cutting.rt:108:1
-same-length : tie.Need-same-length
-same-length c = search needs
-
--- src/cutting.rt:108:1
 returns-2 : tie.Need-returns-2
-returns-2 c = search needs
+returns-2 c =
+    front-some _ _ _ _ (c .before .before .before .before .before .before .before .before .before .before .before .before .before .pre)
+    (c .before .before .before .before .before .before .before .before .before .if1 .left)
+    (c .before .before .before .before .before .before .before .put .ensures) (c .before .before .put2 .ensures)
 
 pub hand-out-spec : {M : Type 1} → statement M
 hand-out-spec =
-    tie.close
-    (tie.spec returns put-requires slice-aggregate-put put-requires-2 same-length returns-2)
+    tie.close (tie.spec returns (λ c κs. search needs) slice-aggregate-put (λ c κs. search needs) (λ c. search needs) returns-2)

@@ -1,26 +1,14 @@
-use native.Mathlib.Omega.{arith}
+-- `cutting::octet` meets its contract.
 use borrow.Author.Needs.{needs}
+use Rattle.session.proofs.Joined.{at-first, at-second}
 use Rattle.session.proofs.cutting.octet.Statement.{statement}
 use Rattle.session.proofs.cutting.octet.Tie as tie
-use Rattle.session.proofs.cutting.octet.Reads as reads
-use Rattle.session.proofs.cutting.octet.Lts as lts
 
--- src/cutting.rt:27:16
-shared-slice-read-result : tie.Need-shared-slice-read-result
-shared-slice-read-result c = search needs
-
--- src/cutting.rt:27:9
 returns : tie.Need-returns
-returns c = search needs
+returns c = let a = c .before .before .args in at-first (a .held .now) (a .«data» .now) (a .i) (c .before .if1 .taken)
 
--- src/cutting.rt:29:5
-shared-slice-read-result-2 : tie.Need-shared-slice-read-result-2
-shared-slice-read-result-2 c = search needs
-
--- src/cutting.rt:21:1
 returns-2 : tie.Need-returns-2
-returns-2 c = search needs
+returns-2 c = let a = c .before .before .args in at-second (a .held .now) (a .«data» .now) (a .i) (c .before .if1 .left)
 
 pub octet-spec : {M : Type 1} → statement M
-octet-spec =
-    tie.close (tie.spec shared-slice-read-result returns shared-slice-read-result-2 returns-2)
+octet-spec = tie.close (tie.spec (λ c. search needs) returns (λ c. search needs) returns-2)

@@ -1,22 +1,14 @@
-use native.Mathlib.Omega.{arith}
+-- `cutting::points` meets its contract.
 use borrow.Author.Needs.{needs}
+use borrow.Author.Tests.{lt-ltb, le-ltb}
 use Rattle.session.proofs.cutting.points.Statement.{statement}
 use Rattle.session.proofs.cutting.points.Tie as tie
-use Rattle.session.proofs.cutting.points.Reads as reads
-use Rattle.session.proofs.cutting.points.Lts as lts
-use Rattle.octets.proofs.wide.Reads as wide-reads
 
--- src/cutting.rt:47:16
-wide-requires : tie.Need-wide-requires
-wide-requires c κs = search needs
-
--- src/cutting.rt:47:9
 returns : tie.Need-returns
-returns c = search needs
+returns c = simp (lt-ltb _ _ (c .before .if1 .taken), c .wide .ensures)
 
--- src/cutting.rt:43:1
 returns-2 : tie.Need-returns-2
-returns-2 c = search needs
+returns-2 c = simp (le-ltb _ _ (c .if1 .left))
 
 pub points-spec : {M : Type 1} → statement M
-points-spec = tie.close (tie.spec wide-requires returns returns-2)
+points-spec = tie.close (tie.spec (λ c κs. search needs) returns returns-2)
