@@ -2,10 +2,9 @@
 use mathlib.Core.Path.{_≡_, refl, sym, ap, _∙_}
 use mathlib.Core.List.{List, [], _∷_, _++_, map, append-assoc}
 use mathlib.Core.Bool.{Bool, true, false, _&&_}
-use mathlib.Core.Option.{Option, none, some}
 use Prim.Native.Nat.{ℕ, zero, suc, _+_, _<_}
 use native.Mathlib.Omega.{arith}
-use lib.ListN.{length, getD, set, take, drop, replicate, length-set, length-map, getD-replicate}
+use lib.ListN.{length, getD, set, take, drop, replicate, length-map, getD-replicate}
 use lib.Seq.{getD-set-same, getD-set-other, take-append-seam, drop-append-seam}
 use lib.Dec.{eqb}
 use Rattle.octets.specs.Parts.{written}
@@ -16,8 +15,9 @@ use Rattle.rules.specs.Packets.{bare, joined}
 use Rattle.rules.specs.Bounds.{Under}
 use Rattle.rules.proofs.Step.{step-arrivals}
 use Rattle.session.specs.declared.Session.{Session}
-use Rattle.session.specs.Channel.{lastOf, heardOf, countOf, view, stored, fresh}
+use Rattle.session.specs.Channel.{view, stored, fresh}
 use Rattle.session.specs.Step.{Accepted, Outcome, channelAt, pieceOf, ruled, accepted, Gives}
+use Rattle.session.proofs.Staying.{view-stored}
 use Rattle.delivery.specs.Sender.{when}
 use Rattle.delivery.specs.Delivered.{Report}
 use Rattle.delivery.specs.Channels.{report}
@@ -56,14 +56,6 @@ module _ (v : ℕ) (c : Call) (o : Outcome) (g : Gives o (c .result) (c .octets)
 
 -- ---- the session afterwards
 
-last-kept : (l : Option ℕ) → lastOf (heardOf l) (countOf l) ≡ l
-last-kept none = refl
-last-kept (some n) = refl
-
-pub view-stored : (c : rules.Channel) → view (stored c) ≡ c
-unfolding view stored
-view-stored c = rw (last-kept (c .last), take-append-seam)
-
 pub fresh-viewed : (v : ℕ) → v < 8 → view (getD (replicate 8 fresh) v fresh) ≡ rules.fresh
 fresh-viewed v l = ap view (getD-replicate 8 v fresh fresh l) ∙ view-stored rules.fresh
 
@@ -82,10 +74,6 @@ module _ (v : ℕ) (s : Session) (f : Frame) (d : List ℕ) where
   pub accepted-other : (v ≡ f .channel → ⊥) → view (channelAt (accepted s f d .session) v) ≡ view (channelAt s v)
   unfolding accepted
   accepted-other n = ap view (getD-set-other (s .channels) (f .channel) v (stored (ruled s f d .next)) fresh n)
-
-  pub accepted-eight : length (accepted s f d .session .channels) ≡ length (s .channels)
-  unfolding accepted
-  accepted-eight = length-set (s .channels) (f .channel) (stored (ruled s f d .next))
 
   pub accepted-time : accepted s f d .session .t ≡ s .t
   unfolding accepted

@@ -13,11 +13,12 @@ use Rattle.answer.specs.Told.{Told, accept, refuse}
 use Rattle.answer.specs.Refusals as no
 use Rattle.frame.specs.declared.Frame.{Frame}
 use Rattle.frame.specs.Frame.{readFrame, readWhole, dataOf, noFrame}
-use Rattle.frame.specs.Statements.{Accepted, Accepts}
+use Rattle.frame.specs.Statements.{Accepted}
+use Rattle.frame.proofs.Accepts.{accepts}
 use Rattle.rules.specs.Channel as rules
 use Rattle.rules.specs.Packets.{bare, joined}
 use Rattle.rules.specs.Bounds.{Sound, Bounded}
-use Rattle.rules.proofs.Bounds.{step-bounded, passes-sound, sound-passes}
+use Rattle.rules.proofs.Bounds.{step-bounded, passing-sound, sound-passing}
 use Rattle.session.specs.declared.Channel.{Channel}
 use Rattle.session.specs.declared.Session.{Session}
 use Rattle.session.specs.Channel.{view, stored, fresh, channelUnsound, anyUnsound, unsound}
@@ -54,7 +55,7 @@ read-plain t s =
 
 fresh-passes : channelUnsound fresh ≡ false
 unfolding stored
-fresh-passes = sound-passes false [] (replicate 250 0) refl
+fresh-passes = sound-passing false [] (replicate 250 0) refl
 
 channel-passes : (cs : List Channel) (i : ℕ) → anyUnsound cs ≡ false → channelUnsound (getD cs i fresh) ≡ false
 channel-passes [] i e = fresh-passes
@@ -64,7 +65,7 @@ channel-passes (c ∷ cs) (suc i) e = channel-passes cs i (or-right (channelUnso
 channel-sound : (s : Session) (i : ℕ) → unsound s ≡ false → Sound (view (channelAt s i) .inStep) (view (channelAt s i) .held .octets)
 unfolding unsound view
 channel-sound s i u =
-    passes-sound (channelAt s i .instep) (channelAt s i .length) (channelAt s i .held) (channel-passes (s .channels) i (or-right (ltb 8 (s .t)) (anyUnsound (s .channels)) u))
+    passing-sound (channelAt s i .instep) (channelAt s i .length) (channelAt s i .held) (channel-passes (s .channels) i (or-right (ltb 8 (s .t)) (anyUnsound (s .channels)) u))
 
 ruled-bounded : (s : Session) (f : Frame) (d : List ℕ) → unsound s ≡ false → length d ≤ 251 → Bounded (ruled s f d)
 unfolding ruled
@@ -105,28 +106,27 @@ unfolding pick
 fits-either true x y p q = p refl
 fits-either false x y p q = q refl
 
-module _ (accepts : Accepts) where
-  outcome-fits : (s : Session) (frame : List ℕ) (n m : ℕ) → Fits (outcome s frame n m)
-  unfolding outcome
-  outcome-fits s frame n m =
-      fits-either _ _ _ (λ e. refused-fits s no.room)
-      (λ k. fits-either (unsound s) _ _ (λ e. refused-fits s no.session)
-      (λ u. fits-either _ _ _ (λ e. refused-fits s no.arrivals)
-      (λ k. fits-either (readFrame (s .t) frame .accepted) _ _
-      (λ e.
-      let f : Frame = readFrame (s .t) frame .fields in
-      let a : Accepted (s .t) frame f = accepts (s .t) frame f (read-plain (s .t) frame e) in
-      accepted-fits (counted s) f (dataOf f frame) (counted-unsound s ∙ u) (omega (arith, a .«data», a .few)))
-      (λ e. refused-fits (counted s) _))))
+outcome-fits : (s : Session) (frame : List ℕ) (n m : ℕ) → Fits (outcome s frame n m)
+unfolding outcome
+outcome-fits s frame n m =
+    fits-either _ _ _ (λ e. refused-fits s no.room)
+    (λ k. fits-either (unsound s) _ _ (λ e. refused-fits s no.session)
+    (λ u. fits-either _ _ _ (λ e. refused-fits s no.arrivals)
+    (λ k. fits-either (readFrame (s .t) frame .accepted) _ _
+    (λ e.
+    let f : Frame = readFrame (s .t) frame .fields in
+    let a : Accepted (s .t) frame f = accepts (s .t) frame f (read-plain (s .t) frame e) in
+    accepted-fits (counted s) f (dataOf f frame) (counted-unsound s ∙ u) (omega (arith, a .«data», a .few)))
+    (λ e. refused-fits (counted s) _))))
 
-  pub few-each : FewEach
-  few-each s c g =
-      let o : Outcome = outcome s (c .frame) (length (c .octets)) (length (c .lengths)) in
-      let k : Fits o = outcome-fits s (c .frame) (length (c .octets)) (length (c .lengths)) in
-      let read : packetsOf c ≡ k .packets =
-      ap (λ (n : ℕ). pieces n (c .octets′) (c .lengths′)) (ap (λ (a : Told _). a .fields .packets) (g .answers) ∙ k .count)
-      ∙ ap (λ (l : List ℕ). pieces (length (k .packets)) l (c .lengths′)) (g .octets ∙ ap (λ (l : List ℕ). written l (c .octets)) (k .octets))
-      ∙ ap (pieces (length (k .packets)) (written (joined (k .packets)) (c .octets)))
-      (g .lengths ∙ ap (λ (l : List ℕ). written l (c .lengths)) (k .lengths))
-      ∙ pieces-joined (k .packets) _ _ in
-      record { packets = omega (arith, ap length read, k .most); octets = omega (arith, ap (λ (ps : List (List ℕ)). length (joined ps)) read, k .most-octets) }
+pub few-each : FewEach
+few-each s c g =
+    let o : Outcome = outcome s (c .frame) (length (c .octets)) (length (c .lengths)) in
+    let k : Fits o = outcome-fits s (c .frame) (length (c .octets)) (length (c .lengths)) in
+    let read : packetsOf c ≡ k .packets =
+    ap (λ (n : ℕ). pieces n (c .octets′) (c .lengths′)) (ap (λ (a : Told _). a .fields .packets) (g .answers) ∙ k .count)
+    ∙ ap (λ (l : List ℕ). pieces (length (k .packets)) l (c .lengths′)) (g .octets ∙ ap (λ (l : List ℕ). written l (c .octets)) (k .octets))
+    ∙ ap (pieces (length (k .packets)) (written (joined (k .packets)) (c .octets)))
+    (g .lengths ∙ ap (λ (l : List ℕ). written l (c .lengths)) (k .lengths))
+    ∙ pieces-joined (k .packets) _ _ in
+    record { packets = omega (arith, ap length read, k .most); octets = omega (arith, ap (λ (ps : List (List ℕ)). length (joined ps)) read, k .most-octets) }

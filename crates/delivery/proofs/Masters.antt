@@ -16,13 +16,13 @@ use Rattle.answer.specs.Refusals as no
 use Rattle.counts.specs.Gap.{gap, Leads}
 use Rattle.counts.proofs.Laws.{gap-alone}
 use Rattle.frame.specs.Frame.{readFrame, dataOf}
-use Rattle.frame.specs.Statements.{ReadsTo, ReadsBack}
+use Rattle.frame.proofs.ReadsBack.{reads-back}
 use Rattle.rules.specs.Channel.{lostSince}
 use Rattle.session.specs.declared.Session.{Session}
 use Rattle.session.specs.Channel.{lastOf, unsound}
 use Rattle.session.specs.Open.{opened}
 use Rattle.session.specs.Step.{Accepted, Outcome, refused, counted, accepted, heeded, outcome, Gives}
-use Rattle.session.specs.Statements.{StaysSound}
+use Rattle.session.proofs.Staying.{Reached, reached-sound, step-reached}
 use Rattle.delivery.specs.Stream.{nextCount}
 use Rattle.delivery.specs.Sender.{Framed, octetsOf, AllWellFormed, Mastered, when, pieceOf}
 use Rattle.delivery.specs.Link.{kept, fatesOf, allFates}
@@ -33,7 +33,7 @@ use Rattle.delivery.specs.Further.{masterLosses, modulo256, MasterLoss, 
 use Rattle.delivery.proofs.Facts.{nil-cons}
 use Rattle.delivery.proofs.Calls.{accepted-time, accepted-number}
 use Rattle.delivery.proofs.Recording.{opened-reached, opened-runs}
-use Rattle.delivery.proofs.Projection.{Reached, next-reached, reached-sound, roomy}
+use Rattle.delivery.proofs.Projection.{roomy}
 
 -- ---- counts
 
@@ -112,9 +112,9 @@ module _ (s : Session) (f : Framed) where
 
 -- ---- the whole run
 
-module _ (back : ReadsBack) (stays : StaysSound) (t last : ℕ) where
+module _ (t : ℕ) where
   masters : (fs : List Framed) (link : List Bool) (calls : List Call) (s : Session) (d : Option ℕ) (m : ℕ)
-      → Reached t last s → s .t ≡ t → Runs s calls → Room calls → map frameOf calls ≡ map (octetsOf t) (kept link fs)
+      → Reached s → s .t ≡ t → Runs s calls → Room calls → map frameOf calls ≡ map (octetsOf t) (kept link fs)
       → AllWellFormed t fs → Mastered m fs → m < 256 → s .arrival + length (kept link fs) ≤ 4294967295
       → Follows (lastOf (s .heard) (s .master .0)) d m
       → masterLosses calls ≡ map modulo256 (lossesAfter d (allFates (s .arrival) link fs))
@@ -131,10 +131,10 @@ module _ (back : ReadsBack) (stays : StaysSound) (t last : ℕ) where
   masters (f ∷ fs) (true ∷ link) (c ∷ cs) s d m r e w k x g h l n q =
       let here : frameOf c ≡ octetsOf t f = cc in
       let rest : map frameOf cs ≡ map (octetsOf t) (kept link fs) = cc in
-      let b = back (f .fields) t (f .«data») (f .time) (g .0) in
+      let b = reads-back (f .fields) t (f .«data») (f .time) (g .0) in
       let o : Outcome = taken s f in
       let is : outcome s (frameOf c) (length (c .octets)) (length (c .lengths)) ≡ o =
-      takes s f t (frameOf c) (length (c .octets)) (length (c .lengths)) e (reached-sound stays t last s r) (k .0) (k .1)
+      takes s f t (frameOf c) (length (c .octets)) (length (c .lengths)) e (reached-sound s r) (k .0) (k .1)
       (ne-eqb (s .arrival) 4294967295 (λ z. omega arith))
       (ap (readFrame t) here ∙ b .fields) (ap (dataOf (f .fields)) here ∙ b .«data») in
       let gives : Gives o (c .result) (c .octets) (c .lengths) (c .octets′) (c .lengths′) =
@@ -148,7 +148,8 @@ module _ (back : ReadsBack) (stays : StaysSound) (t last : ℕ) where
       (subst (λ (j : ℕ). Follows (some (f .fields .master .0)) (some 0) (nextCount j)) (h .0) (follows-got (f .fields .master .0) small)) in
       let ih : masterLosses cs ≡ map modulo256 (lossesAfter (some 0) (allFates (o .session .arrival) link fs)) =
       masters fs link cs (o .session) (some 0) (nextCount m)
-      (subst (λ (z : Outcome). Reached t last (z .session)) is (next-reached t last s (frameOf c) (length (c .octets)) (length (c .lengths)) r))
+      (subst (λ (z : Outcome). Reached (z .session)) is
+      (step-reached s (record { frame = frameOf c; octets = length (c .octets); lengths = length (c .lengths) }) r))
       (taken-time s f ∙ e) (subst (λ (z : Session). Runs z cs) (gives .session) (w .1)) (k .2) rest (g .1) (h .1) (omega arith) (omega arith) follows in
       ap (λ (a : Told Accepted). told a ++ masterLosses cs) (gives .answers)
       ∙ ap (λ (a : List Loss). a ++ masterLosses cs) (taken-told s f)
@@ -156,18 +157,17 @@ module _ (back : ReadsBack) (stays : StaysSound) (t last : ℕ) where
       ∙ ap (λ (a : List Loss). loss (s .arrival + 1) (toldAs d % 256) ∷ a)
       (ih ∙ ap (λ (j : ℕ). map modulo256 (lossesAfter (some 0) (allFates j link fs))) number)
 
-module _ (back : ReadsBack) (stays : StaysSound) where
-  pub master-loss : MasterLoss
-  master-loss r =
-      masters back stays (r .t) (r .last) (r .frames) (r .link) (r .calls) (opened (r .t) (r .last)) none (r .sender .master)
-      (opened-reached (r .t) (r .last) (r .timeSize)) refl (opened-runs (r .t) (r .last) (r .timeSize) (r .opened) (r .opens) (r .calls) (r .runs)) (r .room)
-      (r .offers) (r .sender .wellFormed) (r .sender .masters) (r .sender .small) (r .numbers) tt
+pub master-loss : MasterLoss
+master-loss r =
+    masters (r .t) (r .frames) (r .link) (r .calls) (opened (r .t) (r .last)) none (r .sender .master)
+    (opened-reached (r .t) (r .last) (r .timeSize)) refl (opened-runs (r .t) (r .last) (r .timeSize) (r .opened) (r .opens) (r .calls) (r .runs)) (r .room)
+    (r .offers) (r .sender .wellFormed) (r .sender .masters) (r .sender .small) (r .numbers) tt
 
-  all-small : (ls : List Loss) → AtMost 255 ls → map modulo256 ls ≡ ls
-  all-small [] a = refl
-  all-small (l ∷ ls) a =
-      ap (λ (j : ℕ). loss (l .arrival) j ∷ map modulo256 ls) (mod-eq-of-lt {m = 256} (omega (arith, a .0)))
-      ∙ ap (λ (q : List Loss). l ∷ q) (all-small ls (a .1))
+all-small : (ls : List Loss) → AtMost 255 ls → map modulo256 ls ≡ ls
+all-small [] a = refl
+all-small (l ∷ ls) a =
+    ap (λ (j : ℕ). loss (l .arrival) j ∷ map modulo256 ls) (mod-eq-of-lt {m = 256} (omega (arith, a .0)))
+    ∙ ap (λ (q : List Loss). l ∷ q) (all-small ls (a .1))
 
-  pub master-loss-exact : MasterLossExact
-  master-loss-exact r a = master-loss r ∙ all-small (expectedLosses (allFates (r .last) (r .link) (r .frames))) a
+pub master-loss-exact : MasterLossExact
+master-loss-exact r a = master-loss r ∙ all-small (expectedLosses (allFates (r .last) (r .link) (r .frames))) a

@@ -16,49 +16,15 @@ use Rattle.frame.specs.declared.Frame.{Frame}
 use Rattle.frame.specs.Frame.{readFrame, dataOf}
 use Rattle.rules.specs.Channel as rules
 use Rattle.session.specs.declared.Session.{Session}
-use Rattle.session.specs.declared.Opened.{Opened}
 use Rattle.session.specs.Channel.{view, unsound}
-use Rattle.session.specs.Open.{opened, opening, Opens}
-use Rattle.session.specs.Step.{Outcome, refused, counted, channelAt, pieceOf, ruled, accepted, heeded, outcome, Gives, Steps}
-use Rattle.session.specs.Statements.{Offer, after, StaysSound}
+use Rattle.session.specs.Step.{Outcome, refused, counted, channelAt, pieceOf, ruled, accepted, heeded, outcome, Gives}
+use Rattle.session.proofs.Staying.{Reached, reached-sound, step-reached}
 use Rattle.delivery.specs.Sender.{when}
 use Rattle.delivery.specs.Delivered.{Report}
 use Rattle.delivery.specs.Channels.{report, run, offerOf, offersOf}
 use Rattle.delivery.specs.Channels as channels
 use Rattle.delivery.specs.Run.{Call, Runs, Room, frameOf, took, reportOf, reportsOf}
-use Rattle.delivery.proofs.Calls.{said, call-says, fresh-viewed, accepted-here, accepted-other, accepted-eight, accepted-time, accepted-number, accepted-says}
-
--- ---- sessions of a run never get 4
-
-pub record Reached (t last : ℕ) (s : Session) : Type 0 where
-  pub steps : List Offer
-  pub is : s ≡ after (opening t last .session) steps
-
-after-one : (s : Session) (os : List Offer) (o : Offer) → after s (os ++ o ∷ []) ≡ outcome (after s os) (o .frame) (o .octets) (o .lengths) .session
-after-one s [] o = refl
-after-one s (p ∷ os) o = after-one (outcome s (p .frame) (p .octets) (p .lengths) .session) os o
-
-pub next-reached : (t last : ℕ) (s : Session) (frame : List ℕ) (n m : ℕ) → Reached t last s → Reached t last (outcome s frame n m .session)
-next-reached t last s frame n m r =
-    let o : Offer = record { frame = frame; octets = n; lengths = m } in
-    record {
-      steps = r .steps ++ o ∷ [];
-      is = ap (λ (z : Session). outcome z frame n m .session) (r .is) ∙ sym (after-one (opening t last .session) (r .steps) o);
-    }
-
-module _ (stays : StaysSound) where
-  unsound-four : (s : Session) → unsound s ≡ true → outcome s [] 501 16 .answer .refusal ≡ no.session
-  unfolding outcome pick
-  unsound-four s e = rw e
-
-  pub reached-sound : (t last : ℕ) (s : Session) → Reached t last s → unsound s ≡ false
-  reached-sound t last s r = go (unsound s) refl
-    where
-      go : (b : Bool) → unsound s ≡ b → b ≡ false
-      go false e = refl
-      go true e =
-          absurd (stays t last (r .steps) (record { frame = []; octets = 501; lengths = 16 })
-          (ap (λ (z : Session). outcome z [] 501 16 .answer .refusal) (sym (r .is)) ∙ unsound-four s e))
+use Rattle.delivery.proofs.Calls.{said, call-says, fresh-viewed, accepted-here, accepted-other, accepted-time, accepted-number, accepted-says}
 
 -- ---- a step with room, of a session that passes refusal 4
 
@@ -161,22 +127,21 @@ module _ (t v : ℕ) (c : Call) (cs : List Call) (s : Session) where
 
 -- ---- the whole run
 
-module _ (stays : StaysSound) (t last v : ℕ) where
+module _ (t v : ℕ) where
   pub record Ready (s : Session) : Type 0 where
-    pub reached : Reached t last s
+    pub reached : Reached s
     pub time : s .t ≡ t
-    pub there : v < length (s .channels)
+    pub there : v < 8
 
   abbrev Projects : List Call → Type 0
   Projects cs = (s : Session) → Ready s → Runs s cs → Room cs → reportsOf v cs ≡ run (view (channelAt s v)) (offersOf t v (s .arrival) (map frameOf cs))
 
-  -- after an outcome o of s that leaves t and the number of channels
-  next-ready : (s : Session) (c : Call) (n m : ℕ) (o : Outcome) → Ready s → outcome s (frameOf c) n m ≡ o → o .session .t ≡ s .t
-      → length (o .session .channels) ≡ length (s .channels) → Ready (o .session)
-  next-ready s c n m o r e p q = record {
-    reached = subst (λ (z : Outcome). Reached t last (z .session)) e (next-reached t last s (frameOf c) n m (r .reached));
+  -- after an outcome o of s that leaves t
+  next-ready : (s : Session) (c : Call) (n m : ℕ) (o : Outcome) → Ready s → outcome s (frameOf c) n m ≡ o → o .session .t ≡ s .t → Ready (o .session)
+  next-ready s c n m o r e p = record {
+    reached = subst (λ (z : Outcome). Reached (z .session)) e (step-reached s (record { frame = frameOf c; octets = n; lengths = m }) (r .reached));
     time = p ∙ r .time;
-    there = omega (arith, r .there, q);
+    there = r .there;
   }
 
   module _ (c : Call) (cs : List Call) (rec : Projects cs) (s : Session) (r : Ready s) (w : Runs s (c ∷ cs)) (k : Room (c ∷ cs)) where
@@ -185,16 +150,16 @@ module _ (stays : StaysSound) (t last v : ℕ) where
 
     made-is : made ≡ pick (eqb (s .arrival) 4294967295) (refused s no.arrivals) (heeded (counted s) (frameOf c) (readFrame t (frameOf c)))
     made-is =
-        roomy s (frameOf c) (length (c .octets)) (length (c .lengths)) (k .0) (k .1) (reached-sound stays t last s (r .reached))
+        roomy s (frameOf c) (length (c .octets)) (length (c .lengths)) (k .0) (k .1) (reached-sound s (r .reached))
         ∙ ap (λ (j : ℕ). pick (eqb (s .arrival) 4294967295) (refused s no.arrivals) (heeded (counted s) (frameOf c) (readFrame j (frameOf c)))) (r .time)
 
-    module _ (o : Outcome) (e : made ≡ o) (p : o .session .t ≡ s .t) (q : length (o .session .channels) ≡ length (s .channels)) where
+    module _ (o : Outcome) (e : made ≡ o) (p : o .session .t ≡ s .t) where
       gives : Given t v c cs s o
       gives = subst (λ (z : Outcome). Gives z (c .result) (c .octets) (c .lengths) (c .octets′) (c .lengths′)) e (w .0)
 
       rest : Rest t v c cs s o
       rest =
-          rec (o .session) (next-ready s c (length (c .octets)) (length (c .lengths)) o r e p q)
+          rec (o .session) (next-ready s c (length (c .octets)) (length (c .lengths)) o r e p)
           (subst (λ (z : Session). Runs z cs) (gives .session) (w .1)) (k .2)
 
     heard : eqb (s .arrival) 4294967295 ≡ false → (b : Bool) → readFrame t (frameOf c) .accepted ≡ b → Right t v c cs s
@@ -202,14 +167,13 @@ module _ (stays : StaysSound) (t last v : ℕ) where
     heard e false a =
         let o : Outcome = refused (counted s) (readFrame t (frameOf c) .refusal) in
         let is : made ≡ o = made-is ∙ rw (e, a) in
-        case-refused t v c cs s (readFrame t (frameOf c) .refusal) e a (gives o is refl refl) (rest o is refl refl)
+        case-refused t v c cs s (readFrame t (frameOf c) .refusal) e a (gives o is refl) (rest o is refl)
     heard e true a =
         let f : Frame = readFrame t (frameOf c) .fields in
         let o : Outcome = accepted (counted s) f (dataOf f (frameOf c)) in
         let is : made ≡ o = made-is ∙ rw (e, a) in
         let p : o .session .t ≡ s .t = accepted-time v (counted s) f (dataOf f (frameOf c)) in
-        let q : length (o .session .channels) ≡ length (s .channels) = accepted-eight v (counted s) f (dataOf f (frameOf c)) in
-        case-accepted t v c cs s f e a refl (r .there) (gives o is p q) (rest o is p q)
+        case-accepted t v c cs s f e a refl (omega (arith, r .there, r .reached .eight)) (gives o is p) (rest o is p)
 
     step-projects : Right t v c cs s
     step-projects = go (eqb (s .arrival) 4294967295) refl
@@ -218,7 +182,7 @@ module _ (stays : StaysSound) (t last v : ℕ) where
         go false e = heard e (readFrame t (frameOf c) .accepted) refl
         go true e =
             let is : made ≡ refused s no.arrivals = made-is ∙ sym (picked (eqb (s .arrival) 4294967295) _ _ e) in
-            case-used t v c cs s e (gives (refused s no.arrivals) is refl refl) (rest (refused s no.arrivals) is refl refl)
+            case-used t v c cs s e (gives (refused s no.arrivals) is refl) (rest (refused s no.arrivals) is refl)
 
   pub projects : (cs : List Call) → Projects cs
   projects [] s r w k = refl

@@ -12,14 +12,16 @@ use Rattle.octets.proofs.Choices.{passed}
 use Rattle.answer.specs.Told.{Told, accept}
 use Rattle.frame.specs.declared.Frame.{Frame}
 use Rattle.frame.specs.Frame.{readFrame, dataOf}
-use Rattle.frame.specs.Statements.{ReadsTo, ReadsBack, Accepted, Accepts}
+use Rattle.frame.specs.Statements.{ReadBack}
+use Rattle.frame.proofs.ReadsBack.{reads-back}
+use Rattle.frame.proofs.Accepts.{accepts}
 use Rattle.rules.specs.Channel as rules
 use Rattle.session.specs.declared.Session.{Session}
 use Rattle.session.specs.declared.Opened.{Opened}
 use Rattle.session.specs.Channel.{view}
 use Rattle.session.specs.Open.{opened, opening, Opens}
 use Rattle.session.specs.Step.{channelAt}
-use Rattle.session.specs.Statements.{StaysSound}
+use Rattle.session.proofs.Staying.{Reached, opening-reached}
 use Rattle.delivery.specs.Sender.{Framed, octetsOf, AllWellFormed, when, ofChannel, pieceOf, piecesOf, Stream}
 use Rattle.delivery.specs.Link.{kept, fatesOf, fates}
 use Rattle.delivery.specs.Expected.{Fate, lost, got, piece}
@@ -30,7 +32,7 @@ use Rattle.delivery.specs.Demand.{Reception, Demand3}
 use Rattle.delivery.specs.Further.{Independent}
 use Rattle.delivery.proofs.OneChannel.{AllShort, delivery}
 use Rattle.delivery.proofs.Calls.{fresh-viewed}
-use Rattle.delivery.proofs.Projection.{Reached, Ready, projects}
+use Rattle.delivery.proofs.Projection.{projects}
 
 -- ---- fates
 
@@ -65,15 +67,15 @@ short-when false p ps l s = s
 
 -- ---- by demand 2, what is offered is what was sent and kept
 
-module _ (back : ReadsBack) (accepts : Accepts) (t : ℕ) where
+module _ (t : ℕ) where
   all-short : (v : ℕ) (fs : List Framed) → AllWellFormed t fs → AllShort (piecesOf v fs)
   all-short v [] w = tt
   all-short v (f ∷ fs) w =
-      let r = back (f .fields) t (f .«data») (f .time) (w .0) in
+      let r = reads-back (f .fields) t (f .«data») (f .time) (w .0) in
       let a = accepts t (octetsOf t f) (f .fields) (r .fields) in
       short-when (ofChannel v f) (pieceOf f) (piecesOf v fs) (omega (arith, a .few, a .«data», ap length (r .«data»))) (all-short v fs (w .1))
 
-  offer-is : (v a : ℕ) (f : Framed) → ReadsTo t (octetsOf t f) (f .fields) (f .«data») (f .time)
+  offer-is : (v a : ℕ) (f : Framed) → ReadBack (f .fields) t (f .«data») (f .time)
       → offerOf v a (octetsOf t f) (readFrame t (octetsOf t f)) ≡ when (ofChannel v f) (record { arrival = a; frame = pieceOf f })
   offer-is v a f r =
       ap (offerOf v a (octetsOf t f)) (r .fields)
@@ -92,7 +94,7 @@ module _ (back : ReadsBack) (accepts : Accepts) (t : ℕ) where
       offers-fates v last link fs (w .1) n ∙ sym (offered-lost (ofChannel v f) (pieceOf f) (fates v last link fs))
   offers-fates v last (true ∷ link) (f ∷ fs) w n =
       let more : eqb last 4294967295 ≡ false = ne-eqb last 4294967295 (λ e. omega arith) in
-      let r = back (f .fields) t (f .«data») (f .time) (w .0) in
+      let r = reads-back (f .fields) t (f .«data») (f .time) (w .0) in
       sym (passed (eqb last 4294967295) [] _ _ more refl)
       ∙ ap (λ (l : List Offer). l ++ offersOf t v (last + 1) (map (octetsOf t) (kept link fs))) (offer-is v (last + 1) f r)
       ∙ ap (λ (l : List Offer). when (ofChannel v f) (record { arrival = last + 1; frame = pieceOf f }) ++ l)
@@ -105,37 +107,36 @@ opening-is : (t last : ℕ) → t ≤ 8 → opening t last .session ≡ opened t
 unfolding opening pick
 opening-is t last l = rw (le-ltb 8 t l)
 
-pub opened-reached : (t last : ℕ) → t ≤ 8 → Reached t last (opened t last)
-opened-reached t last k = record { steps = []; is = sym (opening-is t last k) }
+pub opened-reached : (t last : ℕ) → t ≤ 8 → Reached (opened t last)
+opened-reached t last k = subst Reached (opening-is t last k) (opening-reached t last)
 
 pub opened-runs : (t last : ℕ) → t ≤ 8 → (o : Opened) → Opens t last o → (calls : List Call) → Runs (o .session) calls → Runs (opened t last) calls
 opened-runs t last k o h calls w = subst (λ (z : Session). Runs z calls) (h .session ∙ opening-is t last k) w
 
 -- a run from an opening, for channel v
-pub from-opening : (stays : StaysSound) (t last v : ℕ) → t ≤ 8 → v < 8 → (o : Opened) → Opens t last o → (calls : List Call) → Runs (o .session) calls → Room calls
+pub from-opening : (t last v : ℕ) → t ≤ 8 → v < 8 → (o : Opened) → Opens t last o → (calls : List Call) → Runs (o .session) calls → Room calls
     → reportsOf v calls ≡ run rules.fresh (offersOf t v last (map frameOf calls))
-from-opening stays t last v k l o h calls w room =
-    projects stays t last v calls (opened t last) (record { reached = opened-reached t last k; time = refl; there = l })
+from-opening t last v k l o h calls w room =
+    projects t v calls (opened t last) (record { reached = opened-reached t last k; time = refl; there = l })
     (opened-runs t last k o h calls w) room
     ∙ ap (λ (c : rules.Channel). run c (offersOf t v last (map frameOf calls))) (fresh-viewed v l)
 
-pub independent : StaysSound → Independent
-independent stays t last last′ v o o′ calls calls′ k l h w room h′ w′ room′ e =
-    from-opening stays t last v k l o h calls w room
+pub independent : Independent
+independent t last last′ v o o′ calls calls′ k l h w room h′ w′ room′ e =
+    from-opening t last v k l o h calls w room
     ∙ ap (run rules.fresh) e
-    ∙ sym (from-opening stays t last′ v k l o′ h′ calls′ w′ room′)
+    ∙ sym (from-opening t last′ v k l o′ h′ calls′ w′ room′)
 
-module _ (back : ReadsBack) (accepts : Accepts) (stays : StaysSound) where
-  pub demand-3 : Demand3
-  demand-3 r v l =
-      let ss : List Fate = fates v (r .last) (r .link) (r .frames) in
-      let s : Stream v (r .frames) = r .sender .streams v l in
-      let same : reportsOf v (r .calls) ≡ run rules.fresh (offered ss) =
-      from-opening stays (r .t) (r .last) v (r .timeSize) l (r .opened) (r .opens) (r .calls) (r .runs) (r .room)
-      ∙ ap (λ (xs : List (List ℕ)). run rules.fresh (offersOf (r .t) v (r .last) xs)) (r .offers)
-      ∙ ap (run rules.fresh) (offers-fates back accepts (r .t) v (r .last) (r .link) (r .frames) (r .sender .wellFormed) (r .numbers)) in
-      let pieces : map piece ss ≡ piecesOf v (r .frames) = fates-pieces v (r .last) (r .link) (r .frames) in
-      subst (Delivered (s .packets) ss) (sym same)
-      (delivery (s .packets) (s .choices) (s .first) ss (s .good) (s .small) (pieces ∙ s .sent)
-      (subst AllShort (sym pieces) (all-short back accepts (r .t) v (r .frames) (r .sender .wellFormed)))
-      (r .gaps v l))
+pub demand-3 : Demand3
+demand-3 r v l =
+    let ss : List Fate = fates v (r .last) (r .link) (r .frames) in
+    let s : Stream v (r .frames) = r .sender .streams v l in
+    let same : reportsOf v (r .calls) ≡ run rules.fresh (offered ss) =
+    from-opening (r .t) (r .last) v (r .timeSize) l (r .opened) (r .opens) (r .calls) (r .runs) (r .room)
+    ∙ ap (λ (xs : List (List ℕ)). run rules.fresh (offersOf (r .t) v (r .last) xs)) (r .offers)
+    ∙ ap (run rules.fresh) (offers-fates (r .t) v (r .last) (r .link) (r .frames) (r .sender .wellFormed) (r .numbers)) in
+    let pieces : map piece ss ≡ piecesOf v (r .frames) = fates-pieces v (r .last) (r .link) (r .frames) in
+    subst (Delivered (s .packets) ss) (sym same)
+    (delivery (s .packets) (s .choices) (s .first) ss (s .good) (s .small) (pieces ∙ s .sent)
+    (subst AllShort (sym pieces) (all-short (r .t) v (r .frames) (r .sender .wellFormed)))
+    (r .gaps v l))

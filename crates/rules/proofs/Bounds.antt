@@ -1,17 +1,18 @@
 -- The bounds of a step, and that a sound channel stays sound.
-use mathlib.Core.Path.{_≡_, refl, sym, ap, _∙_}
-use mathlib.Core.List.{List, [], _∷_, _++_, append-assoc}
+use mathlib.Core.Path.{_≡_, refl, sym, ap, _∙_, subst}
+use mathlib.Core.List.{List, [], _∷_, _++_, append-assoc, append-nil}
 use mathlib.Core.Bool.{Bool, true, false, not, _&&_, _||_, cond}
 use Prim.Native.Nat.{ℕ, zero, suc, _+_, _*_, _≤_, _<_}
 use native.Mathlib.Omega.{arith}
 use native.Mathlib.Nat.{add-zero}
 use lib.ListN.{length, take, drop, length-append, length-take, length-drop, take-append-drop}
+use lib.Seq.{take-length}
 use lib.Dec.{ltb, leb, eqb}
 use borrow.Author.Tests.{lt-ltb, le-ltb, le-leb, lt-leb, ltb-false, leb-true, leb-false, not-false}
 use Rattle.octets.proofs.Tests.{or-left, or-right, and-true-left, and-true-right}
 use Rattle.rules.specs.Channel.{Piece, Held, nothing, grown, Handed, given, Status, unfinished, whole, wrong, status, allowed, lengthIn, Work, outOfStep, holding, settle, push, feed, fits, enter, follow, lostSince, Channel, fresh, afterLoss, Answer, step}
 use Rattle.rules.specs.Packets.{Good, AllGood, joined, bare}
-use Rattle.rules.specs.Bounds.{heldWrong, Sound, SoundPasses, PassesSound, FreshSound, Bounded, StepBounded}
+use Rattle.rules.specs.Bounds.{heldWrong, Sound, PassingSound, SoundPassing, FreshSound, Bounded, StepBounded}
 use Rattle.rules.proofs.Status.{Order, upTo, past, order, View, short, more, done, bad, view, not-whole, not-wrong, length-said, status-short, status-part, empty-unfinished, whole-good}
 
 -- ---- sound channels
@@ -36,9 +37,9 @@ held-out : (b : Bool) (h : List ℕ) → Sound b h → (not b && ltb 0 (length h
 held-out true h s = refl
 held-out false h s = rw s
 
-pub sound-passes : SoundPasses
+pub sound-passing : SoundPassing
 unfolding heldWrong
-sound-passes b h r s = go (view h)
+sound-passing b h r s = go (view h)
   where
     go : View h → heldWrong b (length h) (h ++ r) ≡ false
     go (short a e) = rw (le-ltb 250 (length h) (omega arith), held-out b h s, le-ltb 5 (length h) (omega arith))
@@ -86,10 +87,17 @@ length-passes n h e = go (order 6 n)
         (leb-true (lengthIn h) 251 (and-true-right (leb 16 (lengthIn h)) (leb (lengthIn h) 251) size))
         (leb-false (lengthIn h) n (or-right (not (allowed (lengthIn h))) (leb (lengthIn h) n) rest))
 
-pub passes-sound : PassesSound
+pub passing-sound : PassingSound
 unfolding heldWrong
-passes-sound true n h e = length-passes n h (or-right (ltb 250 n || (not true && ltb 0 n)) _ e)
-passes-sound false n h e = none-held n h (or-right (ltb 250 n) _ (or-left (ltb 250 n || (not false && ltb 0 n)) _ e))
+passing-sound true n h e = length-passes n h (or-right (ltb 250 n || (not true && ltb 0 n)) _ e)
+passing-sound false n h e = none-held n h (or-right (ltb 250 n) _ (or-left (ltb 250 n || (not false && ltb 0 n)) _ e))
+
+-- the same of the held octets alone
+pub sound-passes : (b : Bool) (h : List ℕ) → Sound b h → heldWrong b (length h) h ≡ false
+sound-passes b h s = ap (heldWrong b (length h)) (sym (append-nil h)) ∙ sound-passing b h [] s
+
+pub passes-sound : (b : Bool) (h : List ℕ) → heldWrong b (length h) h ≡ false → Sound b h
+passes-sound b h e = subst (Sound b) (take-length h) (passing-sound b (length h) h e)
 
 -- ---- room: m octets fed to a channel that held k
 

@@ -22,11 +22,11 @@ Sound true held = status held ≡ unfinished
 Sound false held = held ≡ []
 
 -- A channel that holds the first n of these octets is sound exactly if refusal 4 does not hold of it.
-abbrev pub PassesSound : Type 0
-PassesSound = (inStep : Bool) (n : ℕ) (octets : List ℕ) → heldWrong inStep n octets ≡ false → Sound inStep (take n octets)
+abbrev pub PassingSound : Type 0
+PassingSound = (inStep : Bool) (n : ℕ) (octets : List ℕ) → heldWrong inStep n octets ≡ false → Sound inStep (take n octets)
 
-abbrev pub SoundPasses : Type 0
-SoundPasses = (inStep : Bool) (held behind : List ℕ) → Sound inStep held → heldWrong inStep (length held) (held ++ behind) ≡ false
+abbrev pub SoundPassing : Type 0
+SoundPassing = (inStep : Bool) (held behind : List ℕ) → Sound inStep held → heldWrong inStep (length held) (held ++ behind) ≡ false
 
 abbrev pub FreshSound : Type 0
 FreshSound = Sound (fresh .inStep) (fresh .held .octets)
