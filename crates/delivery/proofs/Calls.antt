@@ -1,8 +1,8 @@
 -- What one call of a step says of a channel.
 use mathlib.Core.Path.{_≡_, refl, sym, ap, _∙_}
 use mathlib.Core.List.{List, [], _∷_, _++_, map, append-assoc}
-use mathlib.Core.Bool.{Bool, true, false, _&&_}
-use Prim.Native.Nat.{ℕ, zero, suc, _+_, _<_}
+use mathlib.Core.Bool.{_&&_}
+use Prim.Native.Nat.{ℕ, _<_}
 use native.Mathlib.Omega.{arith}
 use lib.ListN.{length, getD, set, take, drop, replicate, length-map, getD-replicate}
 use lib.Seq.{getD-set-same, getD-set-other, take-append-seam, drop-append-seam}
@@ -21,7 +21,7 @@ use Rattle.session.proofs.Staying.{view-stored}
 use Rattle.delivery.specs.Sender.{when}
 use Rattle.delivery.specs.Delivered.{Report}
 use Rattle.delivery.specs.Channels.{report}
-use Rattle.delivery.specs.Run.{Call, answerOf, pieces, under, took, reportOf}
+use Rattle.delivery.specs.Run.{Call, pieces, under, took, reportOf}
 
 -- packets laid end to end, and cut off again by their lengths
 pub pieces-joined : (ps : List (List ℕ)) (xs ys : List ℕ) → pieces (length ps) (joined ps ++ xs) (map length ps ++ ys) ≡ ps

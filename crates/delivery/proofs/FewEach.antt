@@ -1,18 +1,18 @@
 -- A frame hands out at most 16 packets and 501 octets.
-use mathlib.Core.Path.{_≡_, refl, sym, ap, _∙_, subst}
-use mathlib.Core.List.{List, [], _∷_, _++_, map}
-use mathlib.Core.Bool.{Bool, true, false, _||_, false≢true}
-use Prim.Native.Nat.{ℕ, zero, suc, _+_, _-_, _≤_, _<_}
+use mathlib.Core.Path.{_≡_, refl, sym, ap, _∙_}
+use mathlib.Core.List.{List, [], _∷_, map}
+use mathlib.Core.Bool.{Bool, true, false, false≢true}
+use Prim.Native.Nat.{ℕ, zero, suc, _≤_}
 use native.Mathlib.Omega.{arith}
 use lib.ListN.{length, getD, replicate, length-map}
-use lib.Dec.{ltb, eqb}
+use lib.Dec.{ltb}
 use Rattle.octets.specs.Pick.{pick}
 use Rattle.octets.specs.Parts.{written}
 use Rattle.octets.proofs.Tests.{or-left, or-right}
 use Rattle.answer.specs.Told.{Told, accept, refuse}
 use Rattle.answer.specs.Refusals as no
 use Rattle.frame.specs.declared.Frame.{Frame}
-use Rattle.frame.specs.Frame.{readFrame, readWhole, dataOf, noFrame}
+use Rattle.frame.specs.Frame.{readFrame, readWhole, dataOf}
 use Rattle.frame.specs.Statements.{Accepted}
 use Rattle.frame.proofs.Accepts.{accepts}
 use Rattle.rules.specs.Channel as rules
@@ -22,9 +22,9 @@ use Rattle.rules.proofs.Bounds.{step-bounded, passing-sound, sound-passing}
 use Rattle.session.specs.declared.Channel.{Channel}
 use Rattle.session.specs.declared.Session.{Session}
 use Rattle.session.specs.Channel.{view, stored, fresh, channelUnsound, anyUnsound, unsound}
-use Rattle.session.specs.Step.{Outcome, refused, counted, channelAt, pieceOf, ruled, accepted, heeded, outcome, Gives, Steps}
-use Rattle.delivery.specs.Run.{Call, answerOf, pieces, packetsOf}
-use Rattle.delivery.specs.Further.{Few, FewEach}
+use Rattle.session.specs.Step.{Outcome, refused, counted, channelAt, pieceOf, ruled, accepted, outcome}
+use Rattle.delivery.specs.Run.{pieces, packetsOf}
+use Rattle.delivery.specs.Further.{FewEach}
 use Rattle.delivery.proofs.Calls.{pieces-joined}
 
 -- ---- a reader that accepts says nothing else

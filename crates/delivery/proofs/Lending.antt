@@ -1,19 +1,19 @@
 -- Calls that do what `Session::step` promises, for any frames: one for each, with 501 octets and 16 lengths lent.
-use mathlib.Core.Path.{_≡_, refl, sym, ap, _∙_}
+use mathlib.Core.Path.{_≡_, refl, ap}
 use mathlib.Core.List.{List, [], _∷_, map}
 use mathlib.Core.Bool.{Bool, true, false}
-use Prim.Native.Nat.{ℕ, _≤_}
+use Prim.Native.Nat.{ℕ}
 use native.Mathlib.Omega.{arith}
 use lib.ListN.{length, replicate, length-replicate}
 use Rattle.octets.specs.Pick.{pick}
 use Rattle.octets.specs.Parts.{written}
-use Rattle.answer.specs.Told.{Told, accept, refuse}
+use Rattle.answer.specs.Told.{Told}
 use Rattle.frame.specs.declared.Frame.{Frame}
 use Rattle.frame.specs.Frame.{readFrame, dataOf}
 use Rattle.session.specs.declared.Session.{Session}
 use Rattle.session.specs.declared.StepAnswer.{StepAnswer}
 use Rattle.session.specs.declared.StepAnswer.the-variants as answer
-use Rattle.session.specs.Step.{Accepted, told, Outcome, refused, counted, accepted, heeded, outcome}
+use Rattle.session.specs.Step.{Accepted, told, Outcome, counted, accepted, outcome}
 use Rattle.delivery.specs.Run.{Call, Runs, Room, frameOf}
 
 -- the answer that tells this

@@ -3,17 +3,15 @@ use mathlib.Core.Path.{_≡_, refl, sym, ap, _∙_, subst}
 use mathlib.Core.List.{List, [], _∷_, _++_, map}
 use mathlib.Core.Bool.{Bool, true, false}
 use mathlib.Core.Option.{Option, none, some}
-use Prim.Native.Nat.{ℕ, zero, suc, _+_, _-_, _%_, _≤_, _<_}
+use Prim.Native.Nat.{ℕ, _+_, _%_, _≤_, _<_}
 use native.Mathlib.Omega.{arith}
 use native.Mathlib.Nat.{mod-lt, mod-mod, mod-eq-of-lt, add-mod-mod}
 use lib.ListN.{length}
 use lib.Dec.{eqb}
 use borrow.Author.Tests.{ne-eqb}
 use Rattle.octets.specs.Pick.{pick}
-use Rattle.octets.proofs.Choices.{passed, picked}
 use Rattle.answer.specs.Told.{Told, accept}
 use Rattle.answer.specs.Refusals as no
-use Rattle.counts.specs.Gap.{gap, Leads}
 use Rattle.counts.proofs.Laws.{gap-alone}
 use Rattle.frame.specs.Frame.{readFrame, dataOf}
 use Rattle.frame.proofs.ReadsBack.{reads-back}
@@ -24,14 +22,12 @@ use Rattle.session.specs.Open.{opened}
 use Rattle.session.specs.Step.{Accepted, Outcome, refused, counted, accepted, heeded, outcome, Gives}
 use Rattle.session.proofs.Staying.{Reached, reached-sound, step-reached}
 use Rattle.delivery.specs.Stream.{nextCount}
-use Rattle.delivery.specs.Sender.{Framed, octetsOf, AllWellFormed, Mastered, when, pieceOf}
-use Rattle.delivery.specs.Link.{kept, fatesOf, allFates}
+use Rattle.delivery.specs.Sender.{Framed, octetsOf, AllWellFormed, Mastered, when}
+use Rattle.delivery.specs.Link.{kept, allFates}
 use Rattle.delivery.specs.Expected.{Loss, oneMore, toldAs, lossesAfter, expectedLosses, AtMost}
-use Rattle.delivery.specs.Run.{Call, Runs, Room, frameOf, answerOf}
-use Rattle.delivery.specs.Demand.{Reception}
+use Rattle.delivery.specs.Run.{Call, Runs, Room, frameOf}
 use Rattle.delivery.specs.Further.{masterLosses, modulo256, MasterLoss, MasterLossExact}
 use Rattle.delivery.proofs.Facts.{nil-cons}
-use Rattle.delivery.proofs.Calls.{accepted-time, accepted-number}
 use Rattle.delivery.proofs.Recording.{opened-reached, opened-runs}
 use Rattle.delivery.proofs.Projection.{roomy}
 

@@ -1,20 +1,18 @@
 -- Where every frame arrived, every packet that was sent to its end is expected.
-use mathlib.Core.Path.{_≡_, refl, sym, ap, _∙_}
-use mathlib.Core.List.{List, [], _∷_, _++_, map}
+use mathlib.Core.Path.{_≡_, refl, ap, _∙_}
+use mathlib.Core.List.{List, [], _∷_, _++_}
 use mathlib.Core.Bool.{Bool, true, false, false≢true}
-use Prim.Native.Nat.{ℕ, zero, suc, _+_, _-_, _≤_, _<_}
+use Prim.Native.Nat.{ℕ, zero, suc, _+_, _-_, _≤_}
 use native.Mathlib.Omega.{arith}
 use lib.ListN.{length, getD, take, drop, length-append, length-drop}
 use borrow.Author.Tests.{le-leb}
 use Rattle.rules.specs.Packets.{bare, joined}
 use Rattle.delivery.specs.Sender.{Framed, when, ofChannel, pieceOf}
-use Rattle.delivery.specs.Link.{kept, fatesOf, fates}
+use Rattle.delivery.specs.Link.{kept, fates}
 use Rattle.delivery.specs.Expected.{Fate, lost, got, isGot, allGot, arrived, expectedFrom}
-use Rattle.delivery.specs.Delivered.{handed}
-use Rattle.delivery.specs.Run.{reportsOf}
-use Rattle.delivery.specs.Demand.{Reception, Demand3}
 use Rattle.delivery.specs.Further.{NothingLost}
 use Rattle.delivery.proofs.Facts.{nil-cons}
+use Rattle.delivery.proofs.Recording.{demand-3}
 
 got-take : (n : ℕ) (ss : List Fate) → allGot ss ≡ true → allGot (take n ss) ≡ true
 got-take zero ss g = refl
@@ -56,7 +54,7 @@ all-got v last (true ∷ link) (f ∷ fs) e =
     got-when (ofChannel v f) (got (last + 1) (pieceOf f)) (fates v (last + 1) link fs) refl (all-got v (last + 1) link fs rest)
 all-got v last (false ∷ link) (f ∷ fs) e = absurd (omega (arith, fewer-kept link fs, ap length e))
 
-pub nothing-lost : Demand3 → NothingLost
-nothing-lost demand r e v l sent =
+pub nothing-lost : NothingLost
+nothing-lost r e v l sent =
     let ss : List Fate = fates v (r .last) (r .link) (r .frames) in
-    ap bare (demand r v l .handed-out) ∙ all-expected ss (all-got v (r .last) (r .link) (r .frames) e) (r .sender .streams v l .packets) _ sent
+    ap bare (demand-3 r v l .handed-out) ∙ all-expected ss (all-got v (r .last) (r .link) (r .frames) e) (r .sender .streams v l .packets) _ sent

@@ -1,17 +1,16 @@
 -- One frame: what the session makes of its octets, and what is expected of it.
 use mathlib.Core.Path.{_≡_, refl, sym, ap, _∙_}
-use mathlib.Core.List.{List, [], _∷_, _++_, map, append-assoc, append-nil}
-use mathlib.Core.Bool.{Bool, true, false, _&&_, cond}
-use Prim.Native.Nat.{ℕ, zero, suc, _+_, _-_, _≤_, _<_}
+use mathlib.Core.List.{List, [], _∷_, _++_, append-assoc, append-nil}
+use mathlib.Core.Bool.{true, false}
+use Prim.Native.Nat.{ℕ, zero, suc, _+_, _≤_, _<_}
 use native.Mathlib.Omega.{arith}
 use lib.ListN.{length, getD, take, drop, length-append, replicate}
-use lib.Seq.{slice}
-use Rattle.rules.specs.Channel.{Piece, Held, nothing, grown, Handed, given, Work, Status, unfinished, whole, status, push, feed, holding, outOfStep, settle}
+use Rattle.rules.specs.Channel.{Held, nothing, grown, Handed, given, unfinished, whole, status, push, feed, holding}
 use Rattle.rules.specs.Packets.{Good, AllGood, joined}
 use Rattle.delivery.proofs.Sending.{restAfter, packetsAfter}
-use Rattle.delivery.specs.Expected.{Fate, isGot, arrivalOf, allGot, arrived, nowhere, expectedFrom}
+use Rattle.delivery.specs.Expected.{Fate, arrivalOf, arrived, nowhere, expectedFrom}
 use Rattle.rules.proofs.Status.{status-whole, status-unfinished}
-use Rattle.delivery.proofs.Walk.{one, walk, begin, expected-none}
+use Rattle.delivery.proofs.Walk.{walk, begin}
 
 -- The packet p, begun in frame i, in which h is sent and r is not: `ok` says that its frames arrived so far.
 abbrev pub Begun : Type 0 → ℕ → ℕ → Held → List ℕ → List ℕ → Type 0

@@ -1,20 +1,20 @@
 -- The theorem for one channel.
-use mathlib.Core.Path.{_≡_, refl, sym, ap, _∙_, subst}
-use mathlib.Core.List.{List, [], _∷_, _++_, map, append-assoc, append-nil}
+use mathlib.Core.Path.{_≡_, refl, sym, ap, _∙_}
+use mathlib.Core.List.{List, [], _∷_, _++_, map}
 use mathlib.Core.Option.{Option, none, some}
-use mathlib.Core.Bool.{Bool, true, false, _&&_, cond, and-true, and-false}
-use Prim.Native.Nat.{ℕ, zero, suc, _+_, _-_, _≤_, _<_}
+use mathlib.Core.Bool.{Bool, true, false, _&&_, and-true, and-false}
+use Prim.Native.Nat.{ℕ, suc, _≤_, _<_}
 use native.Mathlib.Omega.{arith}
-use lib.ListN.{length, getD, take, drop, length-append, replicate}
+use lib.ListN.{length, getD, take, drop, replicate}
 use lib.Seq.{slice, slice-empty}
-use lib.Dec.{ltb, eqb}
+use lib.Dec.{eqb}
 use borrow.Author.Tests.{ne-eqb}
 use Rattle.rules.specs.Channel.{Piece, Held, nothing, Handed, Work, feed, holding, outOfStep, follow, enter, fits, pointerTo, fresh}
-use Rattle.rules.specs.Packets.{Good, AllGood, joined}
+use Rattle.rules.specs.Packets.{AllGood, joined}
 use Rattle.rules.proofs.Status.{Order, upTo, past, order}
 use Rattle.delivery.specs.Stream.{Choice, raw, next, nextCount, written}
 use Rattle.delivery.proofs.Sending.{written-cut, restAfter, packetsAfter, nextPiece, cutInto}
-use Rattle.delivery.specs.Expected.{Fate, lost, got, piece, isGot, arrivalOf, allGot, arrived, nowhere, carries, owners, expectedFrom, expected, expectedLosses, AtMost, mostLost, oneMore}
+use Rattle.delivery.specs.Expected.{Fate, lost, got, piece, isGot, arrivalOf, allGot, arrived, nowhere, owners, expectedLosses, AtMost, mostLost, oneMore}
 use Rattle.delivery.specs.Delivered.{Delivered, handed, losses}
 use Rattle.delivery.specs.Channels.{offered, run}
 use Rattle.delivery.proofs.Facts.{nil-cons, got-step, drop-suc, drop-get, drop-lt, fits-between, fits-held, not-raw, pointer-none, pointer-some, carries-next}

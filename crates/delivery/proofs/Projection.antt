@@ -1,16 +1,14 @@
 -- What a run says of a channel is what the rules say of the channel's own frames under their arrival numbers.
 use mathlib.Core.Path.{_≡_, refl, sym, ap, _∙_, subst}
 use mathlib.Core.List.{List, [], _∷_, _++_, map}
-use mathlib.Core.Bool.{Bool, true, false, _&&_, _||_, true≢false}
-use Prim.Native.Nat.{ℕ, zero, suc, _+_, _≤_, _<_}
+use mathlib.Core.Bool.{Bool, true, false}
+use Prim.Native.Nat.{ℕ, _+_, _≤_, _<_}
 use native.Mathlib.Omega.{arith}
-use lib.ListN.{length, getD, replicate}
-use lib.Dec.{ltb, eqb}
+use lib.ListN.{length}
+use lib.Dec.{eqb}
 use borrow.Author.Tests.{le-ltb, eqb-true, eqb-false}
 use Rattle.octets.specs.Pick.{pick}
-use Rattle.octets.specs.Parts.{written}
 use Rattle.octets.proofs.Choices.{picked, passed}
-use Rattle.answer.specs.Told.{Told}
 use Rattle.answer.specs.Refusals as no
 use Rattle.frame.specs.declared.Frame.{Frame}
 use Rattle.frame.specs.Frame.{readFrame, dataOf}
@@ -24,7 +22,7 @@ use Rattle.delivery.specs.Delivered.{Report}
 use Rattle.delivery.specs.Channels.{report, run, offerOf, offersOf}
 use Rattle.delivery.specs.Channels as channels
 use Rattle.delivery.specs.Run.{Call, Runs, Room, frameOf, took, reportOf, reportsOf}
-use Rattle.delivery.proofs.Calls.{said, call-says, fresh-viewed, accepted-here, accepted-other, accepted-time, accepted-number, accepted-says}
+use Rattle.delivery.proofs.Calls.{call-says, accepted-here, accepted-other, accepted-time, accepted-number, accepted-says}
 
 -- ---- a step with room, of a session that passes refusal 4
 

@@ -1,34 +1,30 @@
 -- A whole recording: what the sender wrote and the link left, offered to the session.
 use mathlib.Core.Path.{_≡_, refl, sym, ap, _∙_, subst}
 use mathlib.Core.List.{List, [], _∷_, _++_, map}
-use mathlib.Core.Bool.{Bool, true, false, _&&_}
-use Prim.Native.Nat.{ℕ, zero, suc, _+_, _-_, _≤_, _<_}
+use mathlib.Core.Bool.{Bool, true, false}
+use Prim.Native.Nat.{ℕ, _+_, _≤_, _<_}
 use native.Mathlib.Omega.{arith}
 use lib.ListN.{length}
-use lib.Dec.{ltb, eqb}
+use lib.Dec.{eqb}
 use borrow.Author.Tests.{le-ltb, ne-eqb}
 use Rattle.octets.specs.Pick.{pick}
 use Rattle.octets.proofs.Choices.{passed}
-use Rattle.answer.specs.Told.{Told, accept}
-use Rattle.frame.specs.declared.Frame.{Frame}
-use Rattle.frame.specs.Frame.{readFrame, dataOf}
+use Rattle.frame.specs.Frame.{readFrame}
 use Rattle.frame.specs.Statements.{ReadBack}
 use Rattle.frame.proofs.ReadsBack.{reads-back}
 use Rattle.frame.proofs.Accepts.{accepts}
 use Rattle.rules.specs.Channel as rules
 use Rattle.session.specs.declared.Session.{Session}
 use Rattle.session.specs.declared.Opened.{Opened}
-use Rattle.session.specs.Channel.{view}
 use Rattle.session.specs.Open.{opened, opening, Opens}
-use Rattle.session.specs.Step.{channelAt}
 use Rattle.session.proofs.Staying.{Reached, opening-reached}
 use Rattle.delivery.specs.Sender.{Framed, octetsOf, AllWellFormed, when, ofChannel, pieceOf, piecesOf, Stream}
-use Rattle.delivery.specs.Link.{kept, fatesOf, fates}
+use Rattle.delivery.specs.Link.{kept, fates}
 use Rattle.delivery.specs.Expected.{Fate, lost, got, piece}
 use Rattle.delivery.specs.Delivered.{Delivered}
 use Rattle.delivery.specs.Run.{Call, Runs, Room, frameOf, reportsOf}
 use Rattle.delivery.specs.Channels.{Offer, offered, run, offerOf, offersOf}
-use Rattle.delivery.specs.Demand.{Reception, Demand3}
+use Rattle.delivery.specs.Demand.{Demand3}
 use Rattle.delivery.specs.Further.{Independent}
 use Rattle.delivery.proofs.OneChannel.{AllShort, delivery}
 use Rattle.delivery.proofs.Calls.{fresh-viewed}

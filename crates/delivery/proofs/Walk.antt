@@ -1,17 +1,15 @@
 -- What is expected, an octet at a time.
-use mathlib.Core.Path.{_≡_, refl, sym, ap, _∙_}
-use mathlib.Core.List.{List, [], _∷_, _++_, map, append-assoc, append-nil}
-use mathlib.Core.Bool.{Bool, true, false, _&&_, cond}
-use Prim.Native.Nat.{ℕ, zero, suc, _+_, _-_, _≤_, _<_}
+use mathlib.Core.Path.{_≡_, refl, sym}
+use mathlib.Core.List.{List, [], _∷_, _++_}
+use mathlib.Core.Bool.{cond}
+use Prim.Native.Nat.{ℕ, suc, _-_}
 use native.Mathlib.Omega.{arith}
-use lib.ListN.{length, getD, take, drop, length-append, replicate}
-use lib.Seq.{slice}
-use lib.Dec.{leb, ltb, leb·zero, leb·suc-zero, leb·suc-suc}
-use Rattle.rules.specs.Channel.{Piece, Handed, Work, Status, unfinished, whole, status, push, feed, holding, outOfStep, settle}
-use Rattle.rules.specs.Packets.{Good, AllGood, joined}
+use lib.ListN.{length, getD, drop}
+use lib.Dec.{leb, leb·zero, leb·suc-zero, leb·suc-suc}
+use Rattle.rules.specs.Channel.{Handed}
+use Rattle.rules.specs.Packets.{AllGood}
 use Rattle.delivery.specs.Sender.{when}
-use Rattle.delivery.proofs.Sending.{restAfter, packetsAfter}
-use Rattle.delivery.specs.Expected.{Fate, isGot, arrivalOf, allGot, arrived, nowhere, expectedFrom}
+use Rattle.delivery.specs.Expected.{Fate, arrivalOf, arrived, nowhere, expectedFrom}
 
 -- the packet p, begun in frame i, was sent in the frames from i to j
 abbrev pub one : List Fate → ℕ → List ℕ → ℕ → List Handed

@@ -1,9 +1,8 @@
 -- The recording of two channels meets the top statement's hypotheses, and what is handed out of it.
-use mathlib.Core.Path.{_≡_, refl, _∙_}
-use mathlib.Core.List.{List, [], _∷_, map}
-use Prim.Native.Nat.{ℕ, zero, suc, _+_, _≤_, _<_}
+use mathlib.Core.Path.{_≡_, refl}
+use mathlib.Core.List.{List, [], map}
+use Prim.Native.Nat.{ℕ, zero, suc, _<_}
 use native.Mathlib.Omega.{arith}
-use lib.ListN.{length}
 use lib.Dec.{lit≤, lit<}
 use Rattle.octets.specs.Pick.{pick}
 use Rattle.frame.specs.Frame.{pointerWrong}
@@ -16,11 +15,12 @@ use Rattle.session.specs.Open.{opened, opening, Opens}
 use Rattle.delivery.specs.Sender.{octetsOf, AllWellFormed, piecesOf, Stream, Sender}
 use Rattle.delivery.specs.Link.{kept, fates}
 use Rattle.delivery.specs.Expected.{expectedLosses, AtMost, mostLost}
-use Rattle.delivery.specs.Demand.{Reception, Demand3}
-use Rattle.delivery.specs.Further.{MasterLoss}
+use Rattle.delivery.specs.Demand.{Reception}
 use Rattle.delivery.specs.Corners.{two}
 use Rattle.delivery.specs.Witness.{zeroChoices, fiveChoices, fivePackets, recording, losing, Witness}
 use Rattle.delivery.proofs.Lending.{callsOf, calls-run, calls-room, calls-offer}
+use Rattle.delivery.proofs.Recording.{demand-3}
+use Rattle.delivery.proofs.Masters.{master-loss}
 
 good-16 : Good (packetOf 16 1)
 good-16 = record { least = lit≤ tt; greatest = lit≤ tt; says = refl }
@@ -98,14 +98,14 @@ reception = record {
   room = calls-room (opened 2 0) offered;
 }
 
-pub witness : Demand3 → MasterLoss → Witness
-witness demand masters = record {
+pub witness : Witness
+witness = record {
   reception = reception;
   sent = refl;
   lost = refl;
-  zero-packets = demand reception 0 (lit< tt) .handed-out;
-  zero-losses = demand reception 0 (lit< tt) .losses-told;
-  five-packets = demand reception 5 (lit< tt) .handed-out;
-  five-losses = demand reception 5 (lit< tt) .losses-told;
-  masters = masters reception;
+  zero-packets = demand-3 reception 0 (lit< tt) .handed-out;
+  zero-losses = demand-3 reception 0 (lit< tt) .losses-told;
+  five-packets = demand-3 reception 5 (lit< tt) .handed-out;
+  five-losses = demand-3 reception 5 (lit< tt) .losses-told;
+  masters = master-loss reception;
 }

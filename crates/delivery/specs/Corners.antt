@@ -3,7 +3,7 @@ use Prim.Native.Nat.{ℕ, zero, suc}
 use mathlib.Core.Path.{_≡_}
 use mathlib.Core.List.{List, [], _∷_, _++_}
 use lib.ListN.{replicate}
-use Rattle.rules.specs.Channel.{Piece, Handed, fresh}
+use Rattle.rules.specs.Channel.{Piece, fresh}
 use Rattle.rules.specs.BothSides.{packetOf, out}
 use Rattle.delivery.specs.Stream.{Choice, raw, next, written}
 use Rattle.delivery.specs.Expected.{Fate, lost, got, expected, Loss}

@@ -1,13 +1,13 @@
 -- 9. Shams: second definitions of what comes of a channel's frames, each with a recording on which demand 3's conclusion fails of it.
 use Prim.Native.Nat.{ℕ, zero, suc}
 use mathlib.Core.Path.{_≡_}
-use mathlib.Core.List.{List, [], _∷_, _++_, map}
+use mathlib.Core.List.{List, [], _∷_, map}
 use mathlib.Core.Bool.{cond, _||_}
 use mathlib.Core.Option.{Option, none, some}
 use lib.ListN.{length, take, drop}
 use lib.Dec.{ltb}
 use Rattle.octets.specs.Numbers.{at, word}
-use Rattle.rules.specs.Channel.{Piece, Handed, Channel, fresh, Answer, answer, step, lostSince, follow, afterLoss}
+use Rattle.rules.specs.Channel.{Handed, Channel, fresh, answer, step, lostSince, follow, afterLoss}
 use Rattle.delivery.specs.Stream.{next}
 use Rattle.delivery.specs.Expected.{Fate, expected, expectedLosses, AtMost, mostLost}
 use Rattle.delivery.specs.Delivered.{Report, handed, losses, Delivered}

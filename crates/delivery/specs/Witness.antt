@@ -5,7 +5,6 @@ use mathlib.Core.List.{List, [], _∷_}
 use mathlib.Core.Bool.{Bool, true, false}
 use lib.ListN.{length}
 use Rattle.frame.specs.declared.Address.{Address}
-use Rattle.frame.specs.declared.Frame.{Frame}
 use Rattle.rules.specs.Channel.{Piece}
 use Rattle.rules.specs.BothSides.{packetOf, out}
 use Rattle.delivery.specs.Stream.{Choice, raw, next, written}

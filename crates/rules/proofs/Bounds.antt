@@ -8,11 +8,11 @@ use native.Mathlib.Nat.{add-zero}
 use lib.ListN.{length, take, drop, length-append, length-take, length-drop, take-append-drop}
 use lib.Seq.{take-length}
 use lib.Dec.{ltb, leb, eqb}
-use borrow.Author.Tests.{lt-ltb, le-ltb, le-leb, lt-leb, ltb-false, leb-true, leb-false, not-false}
+use borrow.Author.Tests.{le-ltb, le-leb, lt-leb, ltb-false, leb-true, leb-false, not-false}
 use Rattle.octets.proofs.Tests.{or-left, or-right, and-true-left, and-true-right}
-use Rattle.rules.specs.Channel.{Piece, Held, nothing, grown, Handed, given, Status, unfinished, whole, wrong, status, allowed, lengthIn, Work, outOfStep, holding, settle, push, feed, fits, enter, follow, lostSince, Channel, fresh, afterLoss, Answer, step}
+use Rattle.rules.specs.Channel.{Held, nothing, grown, Handed, given, Status, unfinished, whole, wrong, status, allowed, lengthIn, Work, outOfStep, holding, settle, push, feed, fits, enter, follow, lostSince, afterLoss, step}
 use Rattle.rules.specs.Packets.{Good, AllGood, joined, bare}
-use Rattle.rules.specs.Bounds.{heldWrong, Sound, PassingSound, SoundPassing, FreshSound, Bounded, StepBounded}
+use Rattle.rules.specs.Bounds.{heldWrong, Sound, PassingSound, SoundPassing, FreshSound, StepBounded}
 use Rattle.rules.proofs.Status.{Order, upTo, past, order, View, short, more, done, bad, view, not-whole, not-wrong, length-said, status-short, status-part, empty-unfinished, whole-good}
 
 -- ---- sound channels

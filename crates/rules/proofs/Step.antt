@@ -1,12 +1,12 @@
 -- The fields of a step's answer, each by itself.
 use mathlib.Core.Path.{_≡_, refl}
 use mathlib.Core.List.{List, [], _∷_, _++_}
-use mathlib.Core.Option.{Option, some}
+use mathlib.Core.Option.{some}
 use mathlib.Core.Bool.{Bool, true, false, _&&_, cond}
 use Prim.Native.Nat.{ℕ, zero, suc}
 use lib.ListN.{drop}
 use lib.Dec.{eqb}
-use Rattle.rules.specs.Channel.{Piece, Held, nothing, grown, Handed, given, Status, unfinished, whole, wrong, status, Work, outOfStep, holding, settle, push, feed, fits, enter, follow, lostSince, Channel, afterLoss, step}
+use Rattle.rules.specs.Channel.{Piece, Held, nothing, grown, Handed, given, Status, unfinished, whole, wrong, status, Work, holding, settle, push, feed, fits, enter, follow, lostSince, Channel, afterLoss, step}
 use Rattle.rules.specs.Bounds.{Under, StepArrivals}
 
 -- what rules 1 to 5 make of the frame
