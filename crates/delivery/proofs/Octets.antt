@@ -13,10 +13,16 @@ use Rattle.rules.proofs.Status.{status-whole, status-unfinished}
 use Rattle.delivery.proofs.Walk.{walk, begin}
 
 -- The packet p, begun in frame i, in which h is sent and r is not: `ok` says that its frames arrived so far.
+pub record Part (ok : Type 0) (k i : ℕ) (h : Held) (rest p : List ℕ) : Type 0 where
+  pub all : h .octets ++ rest ≡ p
+  pub some : 0 < length (h .octets)
+  pub good : Good p
+  pub begun : i ≤ k
+  pub arrives : ok
+
 abbrev pub Begun : Type 0 → ℕ → ℕ → Held → List ℕ → List ℕ → Type 0
 Begun ok k i h [] p = h ≡ nothing
-Begun ok k i h (x ∷ r) p =
-    (h .octets ++ x ∷ r ≡ p) × (0 < length (h .octets)) × Good p × (i ≤ k) × ok
+Begun ok k i h (x ∷ r) p = Part ok k i h (x ∷ r) p
 
 -- A frame k that arrived under the number a, in step: n octets more
 module _ (ss : List Fate) (k a : ℕ) (arr : arrivalOf (getD ss k nowhere) ≡ a) (own : List ℕ) where
@@ -45,7 +51,7 @@ module _ (ss : List Fate) (k a : ℕ) (arr : arrivalOf (getD ss k nowhere) ≡ a
       let e′ : h′ ++ y ∷ r ≡ p = append-assoc (h .octets) (x ∷ []) (y ∷ r) ∙ e in
       let st : status h′ ≡ unfinished = status-unfinished h′ (y ∷ r) p e′ g (omega arith) in
       let len : length h′ ≡ length (h .octets) + 1 = length-append (h .octets) (x ∷ []) in
-      let t : Taken n (grown h x) (y ∷ r) ps acc i p = rec (grown h x) (y ∷ r) ps acc i p gs (e′, omega arith, g, l, ok) in
+      let t : Taken n (grown h x) (y ∷ r) ps acc i p = rec (grown h x) (y ∷ r) ps acc i p gs (record { all = e′; some = omega arith; good = g; begun = l; arrives = ok }) in
       record {
         out = t .out;
         held = t .held;
@@ -102,7 +108,7 @@ module _ (ss : List Fate) (k a : ℕ) (arr : arrivalOf (getD ss k nowhere) ≡ a
   pub takes : arrived ss k k ≡ true → (n : ℕ) → Takes n
   takes here zero h r ps acc i p gs b = none 0 h r ps acc i p gs b
   takes here (suc n) h (x ∷ r) ps acc i p gs b =
-      take-octet n (takes here n) h x r ps acc i p gs (b .0) (b .2) (b .3) (b .4)
+      take-octet n (takes here n) h x r ps acc i p gs (b .all) (b .good) (b .begun) (b .arrives)
   takes here (suc n) h [] [] acc i p gs b = record {
     out = [];
     held = h;
@@ -130,9 +136,13 @@ module _ (ss : List Fate) (k a : ℕ) (arr : arrivalOf (getD ss k nowhere) ≡ a
 
 -- A frame k of which nothing can be handed out of a packet begun before: it was lost, or the channel is out of step.
 -- the begun packet has lost a frame
+pub record Broken (ss : List Fate) (k i : ℕ) : Type 0 where
+  pub begun : i ≤ k
+  pub missed : arrived ss i k ≡ false
+
 abbrev pub Missed : List Fate → ℕ → ℕ → List ℕ → Type 0
 Missed ss k i [] = Unit {0}
-Missed ss k i (x ∷ r) = (i ≤ k) × (arrived ss i k ≡ false)
+Missed ss k i (x ∷ r) = Broken ss k i
 
 -- a header starts behind r: what is left of n octets from there on
 abbrev pub left : ℕ → List ℕ → ℕ
@@ -148,7 +158,7 @@ module _ (ss : List Fate) (k : ℕ) (own : List ℕ) where
   -- an octet of a packet that has lost a frame
   skip-octet : (i : ℕ) (p : List ℕ) (x : ℕ) (r : List ℕ) (ps : List (List ℕ)) (o : List ℕ) → Missed ss k i (x ∷ r)
       → walk ss i p (x ∷ r) ps (k ∷ o) ≡ walk ss i p r ps o
-  skip-octet i p x [] ps o m = rw (m .1)
+  skip-octet i p x [] ps o m = rw (m .missed)
   skip-octet i p x (y ∷ r) ps o m = refl
 
   -- no header starts in the frame
@@ -206,7 +216,7 @@ module _ (ss : List Fate) (k : ℕ) (own : List ℕ) where
   gone here (suc n) i p [] [] gs m = record { start = i; packet = p; same = refl; missed = tt; good = tt }
   gone here (suc n) i p [] ([] ∷ ps) gs m = absurd (omega (arith, gs .0 .least))
   gone here (suc n) i p [] ((x ∷ q) ∷ ps) gs m =
-      let m′ : Missed ss k k (x ∷ q) = (omega arith, here) in
+      let m′ : Missed ss k k (x ∷ q) = record { begun = omega arith; missed = here } in
       let t : Gone n k (x ∷ q) q ps = gone here n k (x ∷ q) q ps (gs .1) (missed-tail k x q m′) in
       let o = replicate (length (take n (q ++ joined ps))) k ++ own in
       record {
