@@ -15,3 +15,4 @@ pub mod Corners
 pub mod Shams
 pub mod Lending
 pub mod Witness
+pub mod Writing

@@ -1,8 +1,9 @@
 -- The recording of two channels meets the top statement's hypotheses, and what is handed out of it.
-use mathlib.Core.Path.{_≡_, refl}
-use mathlib.Core.List.{List, [], map}
+use mathlib.Core.Path.{_≡_, refl, sym, ap, _∙_}
+use mathlib.Core.List.{List, [], _∷_, map}
 use Prim.Native.Nat.{ℕ, zero, suc, _<_}
 use native.Mathlib.Omega.{arith}
+use lib.ListN.{length}
 use lib.Dec.{lit≤, lit<}
 use Rattle.octets.specs.Pick.{pick}
 use Rattle.frame.specs.Frame.{pointerWrong}
@@ -15,9 +16,11 @@ use Rattle.session.specs.Open.{opened, opening, Opens}
 use Rattle.delivery.specs.Sender.{octetsOf, AllWellFormed, piecesOf, Stream, Sender}
 use Rattle.delivery.specs.Link.{kept, fates}
 use Rattle.delivery.specs.Expected.{expectedLosses, AtMost, mostLost}
+use Rattle.delivery.specs.Delivered.{Report, handed, Delivered}
+use Rattle.delivery.specs.Run.{Call, reportsOf}
 use Rattle.delivery.specs.Demand.{Reception}
 use Rattle.delivery.specs.Corners.{two}
-use Rattle.delivery.specs.Witness.{zeroChoices, fiveChoices, fivePackets, recording, losing, Witness}
+use Rattle.delivery.specs.Witness.{zeroChoices, fiveChoices, fivePackets, recording, losing, AllRefused, Witness}
 use Rattle.delivery.proofs.Lending.{callsOf, calls-run, calls-room, calls-offer}
 use Rattle.delivery.proofs.Recording.{demand-3}
 use Rattle.delivery.proofs.Masters.{master-loss}
@@ -98,6 +101,15 @@ reception = record {
   room = calls-room (opened 2 0) offered;
 }
 
+none-said : (v : ℕ) (calls : List Call) → AllRefused calls → reportsOf v calls ≡ []
+none-said v [] a = refl
+none-said v (c ∷ cs) a = rw (a .0, none-said v cs (a .1))
+
+all-refused : (calls : List Call) → AllRefused calls → Delivered fivePackets (fates 5 0 losing recording) (reportsOf 5 calls) → ⊥
+all-refused calls a d =
+    let z : _≡_ {A = ℕ} 0 3 = ap (λ (rs : List Report). length (handed rs)) (sym (none-said 5 calls a)) ∙ ap length (d .handed-out) in
+    omega arith
+
 pub witness : Witness
 witness = record {
   reception = reception;
@@ -108,4 +120,5 @@ witness = record {
   five-packets = demand-3 reception 5 (lit< tt) .handed-out;
   five-losses = demand-3 reception 5 (lit< tt) .losses-told;
   masters = master-loss reception;
+  refused = all-refused;
 }

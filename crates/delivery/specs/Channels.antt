@@ -1,4 +1,4 @@
--- One channel by itself: the frames that it is offered under their arrival numbers, and what the rules say of them.
+-- 8. One channel by itself: the frames that it is offered under their arrival numbers, and what the rules say of them.
 use Prim.Native.Nat.{ℕ, _+_}
 use mathlib.Core.List.{List, [], _∷_, _++_}
 use mathlib.Core.Bool.{_&&_}

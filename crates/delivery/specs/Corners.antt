@@ -1,4 +1,4 @@
--- Corners of demand 3 on one channel: packets, choices and a link, worked out on both sides.
+-- 10. Corners of demand 3 on one channel: packets, choices and a link, worked out on both sides.
 use Prim.Native.Nat.{ℕ, zero, suc}
 use mathlib.Core.Path.{_≡_}
 use mathlib.Core.List.{List, [], _∷_, _++_}

@@ -1,4 +1,4 @@
--- 8. What else is proved of a run: independence of channels, nothing lost, the bounds of a frame, the master loss.
+-- 9. What else is proved of a run: independence of channels, nothing lost, the bounds of a frame, the master loss.
 use Prim.Native.Nat.{ℕ, _%_, _≤_, _<_}
 use mathlib.Core.Path.{_≡_}
 use mathlib.Core.List.{List, [], _∷_, _++_, map}

@@ -1,10 +1,13 @@
 -- 2. The sender: frames of all eight channels, and the octets that the frame writer gives for them.
-use Prim.Native.Nat.{ℕ, _<_}
+use Prim.Native.Nat.{ℕ, _≤_, _<_}
 use mathlib.Core.Path.{_≡_}
 use mathlib.Core.List.{List, [], _∷_, _++_}
 use mathlib.Core.Bool.{Bool, true, false}
-use lib.ListN.{length}
+use lib.ListN.{length, take}
 use lib.Dec.{eqb}
+use Rattle.answer.specs.declared.Written.{Written}
+use Rattle.answer.specs.declared.Written.the-variants.{Length}
+use Rattle.answer.specs.Writer.{Wrote}
 use Rattle.frame.specs.declared.Frame.{Frame}
 use Rattle.frame.specs.Writer.{fieldsWrong, frameOctets}
 use Rattle.rules.specs.Channel.{Piece}
@@ -20,6 +23,18 @@ pub record Framed : Type 0 where
 -- What the frame writer gives for it and a time of t octets.
 abbrev pub octetsOf : ℕ → Framed → List ℕ
 octetsOf t f = frameOctets (f .fields) t (f .«data») (f .time)
+
+-- Which is what `Frame::write` promises of a well-formed frame and an output that is long enough: it answers their number and leaves
+-- them at the output's start.
+pub record Gave (octets : List ℕ) (r : Written) (out′ : List ℕ) : Type 0 where
+  pub answers : r ≡ Length (length octets)
+  pub leaves : take (length octets) out′ ≡ octets
+
+abbrev pub WriterGives : Type 0
+WriterGives = (t : ℕ) (f : Framed) (out : List ℕ) (r : Written) (out′ : List ℕ)
+    → fieldsWrong (f .fields) t (length (f .«data»)) (length (f .time)) ≡ false → length (octetsOf t f) ≤ length out
+    → Wrote (fieldsWrong (f .fields) t (length (f .«data»)) (length (f .time))) (octetsOf t f) out r out′
+    → Gave (octetsOf t f) r out′
 
 -- Well-formed: the writer finds no field out of range. Addresses, telecommand counts and time octets are any.
 abbrev pub AllWellFormed : ℕ → List Framed → Type 0

@@ -1,4 +1,4 @@
--- 9. Shams: second definitions of what comes of a channel's frames, each with a recording on which demand 3's conclusion fails of it.
+-- 11. Shams: second definitions of what comes of a channel's frames, each with a recording on which demand 3's conclusion fails of it.
 use Prim.Native.Nat.{ℕ, zero, suc}
 use mathlib.Core.Path.{_≡_}
 use mathlib.Core.List.{List, [], _∷_, map}

@@ -1,4 +1,4 @@
--- 10. A recording of two channels with losses, of which the top statement speaks: it is not about nothing.
+-- 12. A recording of two channels with losses, of which the top statement speaks: it is not about nothing.
 use Prim.Native.Nat.{ℕ, _+_}
 use mathlib.Core.Path.{_≡_}
 use mathlib.Core.List.{List, [], _∷_}
@@ -9,8 +9,9 @@ use Rattle.rules.specs.Channel.{Piece}
 use Rattle.rules.specs.BothSides.{packetOf, out}
 use Rattle.delivery.specs.Stream.{Choice, raw, next, written}
 use Rattle.delivery.specs.Sender.{Framed}
-use Rattle.delivery.specs.Delivered.{handed, losses}
-use Rattle.delivery.specs.Run.{reportsOf}
+use Rattle.delivery.specs.Link.{fates}
+use Rattle.delivery.specs.Delivered.{handed, losses, Delivered}
+use Rattle.delivery.specs.Run.{Call, answerOf, reportsOf}
 use Rattle.delivery.specs.Demand.{Reception}
 use Rattle.delivery.specs.Further.{masterLosses}
 use Rattle.delivery.specs.Corners.{two, loss}
@@ -59,6 +60,11 @@ recording = turns 7 (written two 0 254 zeroChoices) (written fivePackets 0 9 fiv
 abbrev pub losing : List Bool
 losing = true ∷ true ∷ true ∷ true ∷ false ∷ true ∷ true ∷ true ∷ []
 
+-- A run in which every answer is a refusal.
+abbrev pub AllRefused : List Call → Type 0
+AllRefused [] = Unit {0}
+AllRefused (c ∷ cs) = (answerOf c .accepted ≡ false) × AllRefused cs
+
 pub record Witness : Type 0 where
   pub reception : Reception
   pub sent : reception .frames ≡ recording
@@ -68,3 +74,5 @@ pub record Witness : Type 0 where
   pub five-packets : handed (reportsOf 5 (reception .calls)) ≡ out 5 (packetOf 251 4) ∷ out 5 (packetOf 16 1) ∷ out 7 (packetOf 30 2) ∷ []
   pub five-losses : losses (reportsOf 5 (reception .calls)) ≡ loss 2 0 ∷ loss 4 0 ∷ loss 5 0 ∷ loss 7 0 ∷ []
   pub masters : masterLosses (reception .calls) ≡ loss 1 0 ∷ loss 2 0 ∷ loss 3 0 ∷ loss 4 0 ∷ loss 5 1 ∷ loss 6 0 ∷ loss 7 0 ∷ []
+  -- No run that refuses every frame would do.
+  pub refused : (calls : List Call) → AllRefused calls → Delivered fivePackets (fates 5 0 losing recording) (reportsOf 5 calls) → ⊥
