@@ -3,7 +3,7 @@ pub mod Facts
 pub mod Counts
 pub mod Walk
 pub mod Octets
-pub mod Arriving
+pub mod Following
 pub mod OneChannel
 pub mod Calls
 pub mod Projection

@@ -16,7 +16,7 @@ use Rattle.delivery.specs.Channels.{offered, run}
 use Rattle.delivery.proofs.Facts.{nil-cons, drop-suc, carries-next}
 use Rattle.delivery.proofs.Counts.{eager, eager-losses, Counted, counts}
 use Rattle.delivery.proofs.Walk.{walk, expected-none}
-use Rattle.delivery.proofs.Arriving.{Inv, Stepped, lost-now, missed-now, after-missed, after-raw, got-any}
+use Rattle.delivery.proofs.Following.{Inv, Stepped, lost-now, missed-now, after-missed, after-raw, got-any}
 use Rattle.delivery.proofs.Octets.{Gone, gone}
 
 -- no frame has more than 251 octets of data
