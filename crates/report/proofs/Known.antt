@@ -77,9 +77,10 @@ some-octets p (an-available h l) = omega arith
 some-octets p (a-line h l) = omega arith
 
 -- what the table and the reader make of the packets of a report
-pub record Of (p : Packet) (least greatest : ℕ) (c : List ℕ → Content) : Type 0 where
+pub record Of (p : Packet) (least greatest : ℕ) (line : Bool) (c : List ℕ → Content) : Type 0 where
   pub found : findPair (p .service) (p .subtype) ≡ found.Pair (pair (p .service) (p .subtype) least greatest)
   pub content : (s : List ℕ) → contentOf p s ≡ c s
+  pub lines : imageLine p ≡ line
 
 service-is : (p : Packet) (a b : ℕ) → is p a b ≡ true → p .service ≡ a
 service-is p a b h = eqb-true _ _ (and-true-left (eqb (p .service) a) (eqb (p .subtype) b) h)
@@ -94,34 +95,34 @@ of-three p false true c f g h e = g refl
 of-three p false false c f g h e = h e
 
 module _ (p : Packet) where
-  one : (a b : ℕ) {least greatest : ℕ} {c : List ℕ → Content} → (p .service ≡ a → p .subtype ≡ b → Of p least greatest c)
-      → is p a b ≡ true → Of p least greatest c
+  one : (a b : ℕ) {least greatest : ℕ} {line : Bool} {c : List ℕ → Content} → (p .service ≡ a → p .subtype ≡ b → Of p least greatest line c)
+      → is p a b ≡ true → Of p least greatest line c
   one a b f h = f (service-is p a b h) (subtype-is p a b h)
 
-  pub of-success : success p ≡ true → Of p 4 4 (λ s. content.Success (successOf s))
-  unfolding findPair contentOf pick success
+  pub of-success : success p ≡ true → Of p 4 4 false (λ s. content.Success (successOf s))
+  unfolding findPair contentOf pick success imageLine
   of-success =
       of-three p (is p 1 1) (is p 1 3) (is p 1 7)
-      (one 1 1 (λ e f. record { found = simp (e, f); content = λ s. simp (e, f) }))
-      (one 1 3 (λ e f. record { found = simp (e, f); content = λ s. simp (e, f) }))
-      (one 1 7 (λ e f. record { found = simp (e, f); content = λ s. simp (e, f) }))
+      (one 1 1 (λ e f. record { found = simp (e, f); content = λ s. simp (e, f); lines = simp (e, f) }))
+      (one 1 3 (λ e f. record { found = simp (e, f); content = λ s. simp (e, f); lines = simp (e, f) }))
+      (one 1 7 (λ e f. record { found = simp (e, f); content = λ s. simp (e, f); lines = simp (e, f) }))
 
-  pub of-failure : failure p ≡ true → Of p 6 6 (λ s. content.Failure (failureOf s))
-  unfolding findPair contentOf pick success failure
+  pub of-failure : failure p ≡ true → Of p 6 6 false (λ s. content.Failure (failureOf s))
+  unfolding findPair contentOf pick success failure imageLine
   of-failure =
       of-three p (is p 1 2) (is p 1 4) (is p 1 8)
-      (one 1 2 (λ e f. record { found = simp (e, f); content = λ s. simp (e, f) }))
-      (one 1 4 (λ e f. record { found = simp (e, f); content = λ s. simp (e, f) }))
-      (one 1 8 (λ e f. record { found = simp (e, f); content = λ s. simp (e, f) }))
+      (one 1 2 (λ e f. record { found = simp (e, f); content = λ s. simp (e, f); lines = simp (e, f) }))
+      (one 1 4 (λ e f. record { found = simp (e, f); content = λ s. simp (e, f); lines = simp (e, f) }))
+      (one 1 8 (λ e f. record { found = simp (e, f); content = λ s. simp (e, f); lines = simp (e, f) }))
 
-  pub of-housekeeping : housekeeping p ≡ true → Of p 1 235 (λ s. content.Housekeeping (housekeepingOf p s))
-  unfolding findPair contentOf pick success failure housekeeping
-  of-housekeeping = one 3 25 (λ e f. record { found = simp (e, f); content = λ s. simp (e, f) })
+  pub of-housekeeping : housekeeping p ≡ true → Of p 1 235 false (λ s. content.Housekeeping (housekeepingOf p s))
+  unfolding findPair contentOf pick success failure housekeeping imageLine
+  of-housekeeping = one 3 25 (λ e f. record { found = simp (e, f); content = λ s. simp (e, f); lines = simp (e, f) })
 
-  pub of-available : available p ≡ true → Of p 166 166 (λ s. content.Available (availableOf s))
-  unfolding findPair contentOf pick success failure housekeeping available
-  of-available = one 128 3 (λ e f. record { found = simp (e, f); content = λ s. simp (e, f) })
-
-  pub of-line : imageLine p ≡ true → Of p 191 191 (λ s. content.Line (lineOf s))
+  pub of-available : available p ≡ true → Of p 166 166 false (λ s. content.Available (availableOf s))
   unfolding findPair contentOf pick success failure housekeeping available imageLine
-  of-line = one 128 7 (λ e f. record { found = simp (e, f); content = λ s. simp (e, f) })
+  of-available = one 128 3 (λ e f. record { found = simp (e, f); content = λ s. simp (e, f); lines = simp (e, f) })
+
+  pub of-line : imageLine p ≡ true → Of p 191 191 true (λ s. content.Line (lineOf s))
+  unfolding findPair contentOf pick success failure housekeeping available imageLine
+  of-line = one 128 7 (λ e f. record { found = simp (e, f); content = λ s. simp (e, f); lines = simp (e, f) })
