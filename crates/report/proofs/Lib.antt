@@ -6,3 +6,4 @@ pub mod Accepted
 pub mod Write
 pub mod Strings
 pub mod Back
+pub mod Unique
