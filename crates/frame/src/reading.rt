@@ -3,7 +3,7 @@ ghost use mathlib.Core.Path.{_≡_};
 ghost use lib.ListN.{length};
 ghost use Prim.Native.Nat.{_≤_};
 ghost use Rattle.frame.specs.Asked.{Whole};
-ghost use Rattle.frame.specs.Frame.{told, flagOf, lengthWrong, checkWrong, headWrong, versionWrong, statusWrong, pointerWrong, dataLength, statusOf, frameOf, readWhole};
+ghost use Rattle.frame.specs.Frame.{told, flagOf, lengthWrong, checkWrong, headWrong, versionWrong, statusWrong, pointerWrong, frameOf, readWhole};
 use super::Frame;
 use super::FrameRead;
 use super::addresses;
