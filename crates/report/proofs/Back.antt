@@ -2,26 +2,25 @@
 use Prim.Native.Nat.{ℕ, _+_, _-_, _≤_, _<_}
 use native.Mathlib.Omega.{arith}
 use mathlib.Core.Path.{_≡_, refl, sym, ap, subst, _∙_}
-use mathlib.Core.List.{List, _∷_, _++_, append-assoc}
-use mathlib.Core.Bool.{Bool, true, false, _&&_, _||_}
+use mathlib.Core.List.{List, _++_}
+use mathlib.Core.Bool.{Bool, false, _&&_, _||_}
 use borrow.Author.Tests.{le-ltb, not-false}
 use lib.ListN.{length, length-append}
 use lib.Dec.{ltb}
-use Rattle.octets.specs.Numbers.{at, wordOf}
+use Rattle.octets.specs.Numbers.{at}
 use Rattle.octets.specs.Parts.{part}
 use Rattle.octets.proofs.Laws.{word-of, word-high, word-low}
 use Rattle.octets.proofs.Runs.{run, part-run, part-two}
 use Rattle.octets.proofs.Tests.{or-left, or-right}
-use Rattle.answer.specs.Told.{accept}
-use Rattle.packet.specs.Packet.{readPacket, sourceOf}
-use Rattle.packet.specs.Write.{fieldsWrong, InRange, headerOf, checked, packetOctets}
+use Rattle.packet.specs.Packet.{sourceOf}
+use Rattle.packet.specs.Write.{fieldsWrong, InRange, checked, packetOctets}
 use Rattle.packet.proofs.Laws.{in-range, length-octets, after-source}
 use Rattle.packet.proofs.Back.{length-of}
 use Rattle.packet.proofs.Back.{reads-back as packet-reads-back, writes-back as packet-writes-back}
-use Rattle.report.specs.Table.{pair, findPair, imageLine}
+use Rattle.report.specs.Table.{pair, findPair}
 use Rattle.report.specs.Report.{contentOf, lengthWrong, lineAbove}
-use Rattle.report.specs.Write.{numbersOf, lengthsOf, stringsOf, joined, sourceData, pairWrong, lengthsWrong, lineWrong, contentWrong, reportWrong, reportOctets}
-use Rattle.report.specs.Back.{ReadBack, ReadsBack, WrittenBack, WritesBack}
+use Rattle.report.specs.Write.{numbersOf, lengthsOf, stringsOf, joined, sourceData, pairWrong, lengthsWrong, lineWrong, contentWrong, reportOctets}
+use Rattle.report.specs.Back.{ReadsBack, WritesBack}
 use Rattle.report.proofs.Known.{Kind, a-success, a-failure, a-housekeeping, an-available, a-line}
 use Rattle.report.proofs.Known.{Of, of-success, of-failure, of-housekeeping, of-available, of-line}
 use Rattle.report.proofs.Read.{report-read, packet-accepted}

@@ -10,7 +10,7 @@ use Rattle.octets.specs.Pick.{pick}
 use Rattle.octets.proofs.Tests.{facts, and-true-left, and-true-right}
 use Rattle.report.specs.Table.{pair, pairs, findPair, is, success, failure, housekeeping, available, imageLine}
 use Rattle.report.specs.Report.{successOf, failureOf, housekeepingOf, availableOf, lineOf, contentOf, lengthWrong}
-use Rattle.report.proofs.Search.{Each, Hit, hit}
+use Rattle.report.proofs.Search.{Each, hit}
 use Rattle.packet.specs.declared.Packet.{Packet}
 use Rattle.report.specs.declared.table.Pair.{Pair}
 use Rattle.report.specs.declared.table.Found.the-variants as found

@@ -1,11 +1,11 @@
 -- Laws that the reader's proof cites: its answers, one for each end.
 use Prim.Native.Nat.{ℕ, _≤_}
-use mathlib.Core.Path.{_≡_, refl, sym, ap, _∙_}
+use mathlib.Core.Path.{_≡_, sym, ap, _∙_}
 use mathlib.Core.List.{List}
 use mathlib.Core.Bool.{Bool, true, false}
 use Rattle.octets.specs.Pick.{pick}
 use Rattle.octets.proofs.Choices.{picked, passed}
-use Rattle.answer.specs.Told.{Told, accept, refuse}
+use Rattle.answer.specs.Told.{accept, refuse}
 use Rattle.answer.specs.Refusals as refusal
 use Rattle.packet.specs.Packet.{readPacket}
 use Rattle.packet.specs.Packet.{told as packet-told}

@@ -4,7 +4,7 @@ use native.Mathlib.Omega.{arith}
 use mathlib.Core.Path.{_≡_, refl, sym, ap, subst, _∙_}
 use mathlib.Core.List.{List, [], _∷_, _++_, append-nil, append-assoc}
 use mathlib.Core.Bool.{Bool, true, false, _||_, true≢false, false≢true}
-use lib.ListN.{length, take, drop, length-append, drop-of-length-le}
+use lib.ListN.{length, take, length-append, drop-of-length-le}
 use lib.Seq.{take-at}
 use Rattle.octets.specs.Numbers.{at, wordOf, fourOf}
 use Rattle.octets.specs.Pick.{pick}

@@ -1,6 +1,6 @@
 -- `report::Failure::write` meets its contract.
 use borrow.Author.Needs.{needs}
-use mathlib.Core.List.{[], _∷_}
+use mathlib.Core.List.{[]}
 use Rattle.report.proofs.Write.{reported}
 use Rattle.report.specs.declared.Content.the-variants as content
 use Rattle.report.proofs.Failure.write.Statement.{statement}
