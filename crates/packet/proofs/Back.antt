@@ -1,13 +1,13 @@
 -- The packet's reader and its writer undo one another.
-use Prim.Native.Nat.{ℕ, zero, suc, _+_, _-_, _/_, _%_, _≤_, _<_}
+use Prim.Native.Nat.{ℕ, suc, _+_, _-_, _/_, _%_, _≤_, _<_}
 use native.Mathlib.Omega.{arith}
 use native.Mathlib.Nat.{add-zero}
 use mathlib.Core.Path.{_≡_, refl, sym, ap, _∙_}
-use mathlib.Core.List.{List, [], _∷_, _++_}
+use mathlib.Core.List.{List, [], _++_}
 use mathlib.Core.Bool.{false}
 use borrow.Author.Tests.{le-ltb, eq-eqb}
 use lib.ListN.{length, take, drop, length-append, take-append-drop, drop-of-length-le, length-drop}
-use lib.Seq.{take-at, drop-cons, getD-append-add, take-add, length-take-le}
+use lib.Seq.{take-at, getD-append-add, take-add, length-take-le}
 use Rattle.octets.specs.Numbers.{at, word, wordOf}
 use Rattle.octets.specs.Pick.{pick}
 use Rattle.octets.proofs.Choices.{not-picked}
@@ -20,7 +20,7 @@ use Rattle.answer.proofs.Told.{same-fields, refuse-or-accept}
 use Rattle.crc.specs.Check.{packetCheck}
 use Rattle.packet.specs.Packet.{lengthWrong, checkWrong, bitsWrong, fieldsOf, readPacket, sourceOf}
 use Rattle.packet.specs.Write.{fieldsWrong, InRange, headerOf, checked, packetOctets}
-use Rattle.packet.specs.Back.{ReadBack, ReadsBack, WrittenBack, WritesBack}
+use Rattle.packet.specs.Back.{ReadsBack, WritesBack}
 use Rattle.packet.proofs.Laws.{in-range, length-octets}
 use Rattle.packet.specs.declared.Packet.{Packet}
 
