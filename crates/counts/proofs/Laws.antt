@@ -15,12 +15,12 @@ gap-leads m count last h =
     record {
       below = mod-lt (b + (m - 1 - a)) h;
       leads =
-        add-mod-mod (last + 1) (b + (m - 1 - a)) m
-        ∙ ap (λ (n : ℕ). n % m) (add-assoc last 1 (b + (m - 1 - a)))
-        ∙ sym (mod-add-mod last m (1 + (b + (m - 1 - a))))
-        ∙ ap (λ (n : ℕ). n % m) (sym (add-assoc a 1 (b + (m - 1 - a))) ∙ sum)
-        ∙ add-mod-right b m
-        ∙ mod-mod count m;
+          add-mod-mod (last + 1) (b + (m - 1 - a)) m
+          ∙ ap (λ (n : ℕ). n % m) (add-assoc last 1 (b + (m - 1 - a)))
+          ∙ sym (mod-add-mod last m (1 + (b + (m - 1 - a))))
+          ∙ ap (λ (n : ℕ). n % m) (sym (add-assoc a 1 (b + (m - 1 - a))) ∙ sum)
+          ∙ add-mod-right b m
+          ∙ mod-mod count m;
     }
 
 -- what was added to a comes back by what a lacks to m
@@ -58,13 +58,13 @@ wrapped m w count last d g h v p q =
     (record {
       below = mod-lt g h;
       leads =
-        add-mod-mod (last + 1) g m
-        ∙ ap (λ (n : ℕ). n % m) turn
-        ∙ sym (mod-add-mod (g + 1) m last)
-        ∙ ap (λ (n : ℕ). (n + last) % m) (sym (mod-mod-of-dvd m (g + 1) (dvd-of-mod-eq-zero m v)) ∙ ap (λ (n : ℕ). n % m) q)
-        ∙ mod-add-mod d m last
-        ∙ sym (mod-mod-of-dvd m (d + last) (dvd-of-mod-eq-zero m v))
-        ∙ ap (λ (n : ℕ). n % m) p;
+          add-mod-mod (last + 1) g m
+          ∙ ap (λ (n : ℕ). n % m) turn
+          ∙ sym (mod-add-mod (g + 1) m last)
+          ∙ ap (λ (n : ℕ). (n + last) % m) (sym (mod-mod-of-dvd m (g + 1) (dvd-of-mod-eq-zero m v)) ∙ ap (λ (n : ℕ). n % m) q)
+          ∙ mod-add-mod d m last
+          ∙ sym (mod-mod-of-dvd m (d + last) (dvd-of-mod-eq-zero m v))
+          ∙ ap (λ (n : ℕ). n % m) p;
     })
   where
     turn : last + 1 + g ≡ g + 1 + last

@@ -11,12 +11,19 @@ pub struct ChannelCount(pub u8);
 // The source sequence count of one APID, 14 bits of it in use.
 pub struct SequenceCount(pub u16);
 
+// (count - last - 1) modulo 256, by subtraction that wraps.
+fn gap(count: u8, last: u8) -> u8
+    ensures { λ r. ⌜ r ≡ gap 256 count last ⌝ }
+{
+    std::num::wrapping_sub_u8(std::num::wrapping_sub_u8(count, last), 1)
+}
+
 impl MasterCount {
     // How many frames were lost between the one counted last and this one.
     pub fn lost(self, last: MasterCount) -> u8
         ensures { λ r. ⌜ r ≡ gap 256 (self .0) (last .0) ⌝ }
     {
-        std::num::wrapping_sub_u8(std::num::wrapping_sub_u8(self.0, last.0), 1)
+        gap(self.0, last.0)
     }
 }
 
@@ -25,7 +32,7 @@ impl ChannelCount {
     pub fn lost(self, last: ChannelCount) -> u8
         ensures { λ r. ⌜ r ≡ gap 256 (self .0) (last .0) ⌝ }
     {
-        std::num::wrapping_sub_u8(std::num::wrapping_sub_u8(self.0, last.0), 1)
+        gap(self.0, last.0)
     }
 }
 
