@@ -4,6 +4,10 @@ use mathlib.Core.Path.{_≡_, ap}
 use mathlib.Core.Bool.{Bool, true, false, true≢false, false≢true}
 use Rattle.answer.specs.Told.{Told, accept, refuse}
 
+-- equal values are told alike
+pub accept-same : {A : Type 0} {a b : A} → a ≡ b → accept a ≡ accept b
+accept-same h = ap accept h
+
 pub same-fields : {A : Type 0} {a b : A} → accept a ≡ accept b → a ≡ b
 same-fields {A} h = ap (λ (t : Told A). t .fields) h
 

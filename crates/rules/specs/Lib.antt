@@ -1,1 +1,4 @@
 pub mod Channel
+pub mod Packets
+pub mod Bounds
+pub mod Cutting

@@ -1,0 +1,11 @@
+pub mod Ends
+pub mod Inverse
+pub mod Numbers
+pub mod Octets
+pub mod Own
+pub mod Passed
+pub mod Register
+pub mod Rows
+pub mod Table
+pub mod Turn
+pub mod Unique

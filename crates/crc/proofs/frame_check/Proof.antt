@@ -1,0 +1,44 @@
+-- `crc::frame_check` meets its contract. The loop's invariant: `crc` has the register's bits after the octets passed.
+use mathlib.Core.Path.{refl}
+use Prim.Native.Nat.{_-_, _<_}
+use native.Mathlib.Omega.{arith}
+use lib.Dec.{lit<}
+use lib.ListN.{length, getD}
+use Rattle.crc.specs.Check.Order.{lowFirst}
+use Rattle.crc.proofs.Turn.{tableWord}
+use Rattle.crc.proofs.Passed.{right, Passed, placeOf, passed-none, place, passed-more, passed-all}
+use Rattle.crc.proofs.frame_check.Statement.{statement}
+use Rattle.crc.proofs.frame_check.Tie as tie
+
+abbrev Inv-loop : tie.InvT-loop
+Inv-loop octets table crc₀ i₀ crc i = Passed lowFirst table octets i crc
+
+abbrev μ-loop : tie.MeasureT-loop
+μ-loop octets table crc₀ i₀ crc i = length octets - i
+
+-- the next octet, and its place in the table
+octet : (c : tie.After-shared-slice-known Inv-loop μ-loop)
+    → getD (c .before .before .before .args .octets .now) (c .before .before .loop .i) 0 < 256
+octet c = omega (arith, c .shared-slice-known .given (c .before .before .loop .i))
+
+inside : (c : tie.After-shared-slice-known Inv-loop μ-loop)
+    → placeOf lowFirst (c .before .before .loop .crc) (getD (c .before .before .before .args .octets .now) (c .before .before .loop .i) 0) < 256
+inside c = place (c .before .before .loop .inv) (octet c)
+
+loop-holds : tie.Need-loop-holds Inv-loop μ-loop
+unfolding right tableWord
+loop-holds c = passed-none lowFirst _ _ tt
+
+loop-again : tie.Need-loop-again Inv-loop μ-loop
+loop-again c = passed-more (c .before .before .loop .inv) refl (c .before .loop-test .taken) (octet c)
+
+returns : tie.Need-returns Inv-loop μ-loop
+returns c = passed-all (c .before .loop .inv) 0xffff (c .loop-test .left) (lit< tt)
+
+pub frame-check-spec : {M : Type 1} → statement M
+frame-check-spec =
+    tie.close
+    (tie.spec Inv-loop μ-loop loop-holds
+    (λ c. omega arith) (λ c. omega (arith, octet c)) (λ c. omega (arith, inside c)) (λ c. omega (arith, inside c)) (λ c. inside c)
+    (λ c. omega arith) (λ c. omega arith)
+    loop-again returns)

@@ -1,0 +1,244 @@
+-- Rule 5 a packet at a time is rule 5 an octet at a time.
+use mathlib.Core.Path.{_≡_, refl, sym, ap, _∙_, subst}
+use mathlib.Core.List.{List, [], _∷_, _++_, append-assoc, append-nil}
+use mathlib.Core.Bool.{Bool, true, false, true≢false, false≢true, cond}
+use Prim.Native.Nat.{ℕ, zero, suc, _+_, _-_, _≤_, _<_}
+use native.Mathlib.Omega.{arith}
+use lib.ListN.{length, take, drop, length-append, length-drop, take-append-drop}
+use lib.Seq.{length-take-le, take-append-add, drop-append-add, take-append-seam}
+use Rattle.rules.specs.Channel.{Held, nothing, grown, Handed, given, Status, unfinished, whole, wrong, status, lengthIn, Work, outOfStep, holding, settle, push, feed}
+use Rattle.rules.specs.Packets.{Good, joined, bare}
+use Rattle.rules.specs.Cutting.{Cut, cutBy, cutOf, behind, CutsOn, CutsUnfinished, CutsWrong, CutsWhole, CutsFront}
+use Rattle.rules.proofs.Status.{View, short, more, done, bad, view, not-whole, not-wrong, not-both, length-said, status-whole, status-unfinished, empty-unfinished}
+use Rattle.rules.proofs.Bounds.{bare-append, joined-append}
+
+-- ---- arrival numbers do not matter, and what was handed out before stays in front
+
+settled : (a b : ℕ) (st : Status) (h k : Held) (ps rs : List Handed) (qs : List (List ℕ)) → h .octets ≡ k .octets → bare ps ≡ qs ++ bare rs
+    → cutBy (settle a st h ps) ≡ behind qs (cutBy (settle b st k rs))
+settled a b unfinished h k ps rs qs e p = rw (e, p)
+settled a b wrong h k ps rs qs e p = rw p
+settled a b whole h k ps rs qs e p =
+    rw (bare-append ps (given a h ∷ []), bare-append rs (given b k ∷ []), p, append-assoc, e)
+
+pushed : (a b : ℕ) (s t : Bool) (h k : Held) (ps rs : List Handed) (qs : List (List ℕ)) (x : ℕ) → s ≡ t → h .octets ≡ k .octets → bare ps ≡ qs ++ bare rs
+    → cutBy (push a (record { inStep = s; held = h; packets = ps }) x) ≡ behind qs (cutBy (push b (record { inStep = t; held = k; packets = rs }) x))
+unfolding push
+pushed a b false false h k ps rs qs x i e p = rw (e, p)
+pushed a b true true h k ps rs qs x i e p =
+    ap (λ (l : List ℕ). cutBy (settle a (status (l ++ x ∷ [])) (grown h x) ps)) e
+    ∙ settled a b (status (k .octets ++ x ∷ [])) (grown h x) (grown k x) ps rs qs (rw e) p
+pushed a b true false h k ps rs qs x i e p = absurd (true≢false i)
+pushed a b false true h k ps rs qs x i e p = absurd (false≢true i)
+
+pub fed : (a b : ℕ) (xs : List ℕ) (w v : Work) (qs : List (List ℕ)) → cutBy w ≡ behind qs (cutBy v)
+    → cutBy (feed a w xs) ≡ behind qs (cutBy (feed b v xs))
+fed a b [] w v qs e = e
+fed a b (x ∷ xs) w v qs e =
+    fed a b xs (push a w x) (push b v x) qs
+    (pushed a b (w .inStep) (v .inStep) (w .held) (v .held) (w .packets) (v .packets) qs x
+    (ap (λ (c : Cut). c .inStep) e) (ap (λ (c : Cut). c .held) e) (ap (λ (c : Cut). c .packets) e))
+
+feed-append : (a : ℕ) (w : Work) (xs ys : List ℕ) → feed a w (xs ++ ys) ≡ feed a (feed a w xs) ys
+feed-append a w [] ys = refl
+feed-append a w (x ∷ xs) ys = feed-append a (push a w x) xs ys
+
+feed-out : (a : ℕ) (ps : List Handed) (xs : List ℕ) → feed a (outOfStep ps) xs ≡ outOfStep ps
+unfolding push
+feed-out a ps [] = refl
+feed-out a ps (x ∷ xs) = feed-out a ps xs
+
+-- ---- one octet more
+
+module _ (a : ℕ) (h : Held) (ps : List Handed) (x : ℕ) where
+  push-on : status (h .octets ++ x ∷ []) ≡ unfinished → push a (holding h ps) x ≡ holding (grown h x) ps
+  unfolding push
+  push-on e = rw e
+
+  push-done : status (h .octets ++ x ∷ []) ≡ whole → push a (holding h ps) x ≡ holding nothing (ps ++ given a (grown h x) ∷ [])
+  unfolding push
+  push-done e = rw e
+
+  push-bad : status (h .octets ++ x ∷ []) ≡ wrong → push a (holding h ps) x ≡ outOfStep ps
+  unfolding push
+  push-bad e = rw e
+
+-- what begins an unfinished packet is unfinished
+unfinished-front : (h r : List ℕ) → status (h ++ r) ≡ unfinished → status h ≡ unfinished
+unfinished-front h r u = go (view h) (view (h ++ r))
+  where
+    len : length (h ++ r) ≡ length h + length r
+    len = length-append h r
+
+    go : View h → View (h ++ r) → status h ≡ unfinished
+    go (short a e) v = e
+    go (more a b c d e) v = e
+    go (done a b c d e) (short a′ e′) = absurd (omega (arith, len))
+    go (done a b c d e) (more a′ b′ c′ d′ e′) = absurd (omega (arith, len, length-said h r (h ++ r) refl a))
+    go (done a b c d e) (done a′ b′ c′ d′ e′) = not-whole u e′
+    go (done a b c d e) (bad a′ n′ e′) = not-wrong u e′
+    go (bad a n e) (short a′ e′) = absurd (omega (arith, len))
+    go (bad a n e) (more a′ b′ c′ d′ e′) =
+        let same : lengthIn h ≡ lengthIn (h ++ r) = length-said h r (h ++ r) refl a in
+        absurd (n (omega arith) (omega arith))
+    go (bad a n e) (done a′ b′ c′ d′ e′) = not-whole u e′
+    go (bad a n e) (bad a′ n′ e′) = not-wrong u e′
+
+-- and six octets of a wrong one are wrong
+wrong-front : (h r : List ℕ) → 6 ≤ length h → status (h ++ r) ≡ wrong → status h ≡ wrong
+wrong-front h r k w = go (view h) (view (h ++ r))
+  where
+    same : lengthIn h ≡ lengthIn (h ++ r)
+    same = length-said h r (h ++ r) refl k
+
+    go : View h → View (h ++ r) → status h ≡ wrong
+    go v (short a e) = not-wrong e w
+    go v (more a b c d e) = not-wrong e w
+    go v (done a b c d e) = not-both w e
+    go (short a e) (bad a′ n e′) = absurd (omega arith)
+    go (more a b c d e) (bad a′ n e′) = absurd (n (omega (arith, same)) (omega (arith, same)))
+    go (done a b c d e) (bad a′ n e′) = absurd (n (omega (arith, same)) (omega (arith, same)))
+    go (bad a m e) (bad a′ n e′) = e
+
+pub record Whole (s : List ℕ) : Type 0 where
+  pub six : 6 ≤ length s
+  pub least : 16 ≤ lengthIn s
+  pub greatest : lengthIn s ≤ 251
+  pub there : lengthIn s ≤ length s
+
+pub whole-size : (s : List ℕ) → status s ≡ whole → Whole s
+whole-size s w = go (view s)
+  where
+    go : View s → Whole s
+    go (short a e) = not-whole e w
+    go (more a b c d e) = not-whole e w
+    go (done a b c d e) = record { six = a; least = b; greatest = c; there = d }
+    go (bad a n e) = not-both e w
+
+-- an unfinished packet is held
+pub feed-grow : (a : ℕ) (h : Held) (r : List ℕ) (ps : List Handed) → status (h .octets ++ r) ≡ unfinished
+    → cutBy (feed a (holding h ps) r) ≡ record { inStep = true; held = h .octets ++ r; packets = bare ps }
+feed-grow a h [] ps u = rw append-nil
+feed-grow a h (x ∷ r) ps u =
+    let e : (h .octets ++ x ∷ []) ++ r ≡ h .octets ++ x ∷ r = append-assoc (h .octets) (x ∷ []) r in
+    let v : status ((h .octets ++ x ∷ []) ++ r) ≡ unfinished = rw e u in
+    ap (λ (w : Work). cutBy (feed a w r)) (push-on a h ps x (unfinished-front (h .octets ++ x ∷ []) r v))
+    ∙ feed-grow a (grown h x) r ps v
+    ∙ rw e
+
+-- a wrong length drops the rest
+wrong-case : (a : ℕ) (h : Held) (x : ℕ) (r : List ℕ) (ps : List Handed) → status ((h .octets ++ x ∷ []) ++ r) ≡ wrong
+    → (st : Status) → status (h .octets ++ x ∷ []) ≡ st
+    → (status (h .octets ++ x ∷ []) ≡ unfinished → feed a (holding (grown h x) ps) r ≡ outOfStep ps)
+    → feed a (push a (holding h ps) x) r ≡ outOfStep ps
+wrong-case a h x r ps v unfinished q rec = rw (push-on a h ps x q) (rec q)
+wrong-case a h x r ps v wrong q rec = rw (push-bad a h ps x q) (feed-out a ps r)
+wrong-case a h x r ps v whole q rec = not-both (wrong-front (h .octets ++ x ∷ []) r (whole-size (h .octets ++ x ∷ []) q .six) v) q
+
+feed-wrong : (a : ℕ) (h : Held) (r : List ℕ) (ps : List Handed) → status (h .octets) ≡ unfinished → status (h .octets ++ r) ≡ wrong
+    → feed a (holding h ps) r ≡ outOfStep ps
+feed-wrong a h [] ps u w = not-wrong u (rw (← append-nil (h .octets)) w)
+feed-wrong a h (x ∷ r) ps u w =
+    let v : status ((h .octets ++ x ∷ []) ++ r) ≡ wrong = rw append-assoc w in
+    wrong-case a h x r ps v (status (h .octets ++ x ∷ [])) refl (λ q. feed-wrong a (grown h x) r ps q v)
+
+-- a whole packet is handed out
+pub feed-whole : (a : ℕ) (h : Held) (x : ℕ) (r : List ℕ) (ps : List Handed) → Good (h .octets ++ x ∷ r)
+    → cutBy (feed a (holding h ps) (x ∷ r)) ≡ record { inStep = true; held = []; packets = bare ps ++ (h .octets ++ x ∷ r) ∷ [] }
+feed-whole a h x [] ps g =
+    ap cutBy (push-done a h ps x (status-whole (h .octets ++ x ∷ []) [] (h .octets ++ x ∷ []) (append-nil (h .octets ++ x ∷ [])) g refl))
+    ∙ rw (bare-append ps (given a (grown h x) ∷ []))
+feed-whole a h x (y ∷ r) ps g =
+    let e : (h .octets ++ x ∷ []) ++ y ∷ r ≡ h .octets ++ x ∷ y ∷ r = append-assoc (h .octets) (x ∷ []) (y ∷ r) in
+    let g′ : Good ((h .octets ++ x ∷ []) ++ y ∷ r) = rw e g in
+    ap (λ (w : Work). cutBy (feed a w (y ∷ r)))
+    (push-on a h ps x (status-unfinished (h .octets ++ x ∷ []) (y ∷ r) (h .octets ++ x ∷ y ∷ r) e g (omega arith)))
+    ∙ feed-whole a (grown h x) y r ps g′
+    ∙ rw e
+
+-- ---- the laws of `cutOf`
+
+pub cuts-unfinished : CutsUnfinished
+unfolding cutOf
+cuts-unfinished s u = feed-grow 0 nothing s [] u
+
+pub cuts-wrong : CutsWrong
+unfolding cutOf
+cuts-wrong s w = ap cutBy (feed-wrong 0 nothing s [] empty-unfinished w)
+
+-- what is held and the octets after it, from what is held alone
+grown-on : (h : Held) (xs : List ℕ) → status (h .octets) ≡ unfinished → cutBy (feed 0 (holding h []) xs) ≡ cutOf (h .octets ++ xs)
+unfolding cutOf
+grown-on h xs u =
+    let front : cutBy (feed 0 (holding nothing []) (h .octets)) ≡ cutBy (holding h []) = feed-grow 0 nothing (h .octets) [] u in
+    sym (fed 0 0 xs (feed 0 (holding nothing []) (h .octets)) (holding h []) [] front)
+    ∙ ap cutBy (sym (feed-append 0 (holding nothing []) (h .octets) xs))
+
+pub cuts-on : CutsOn
+cuts-on a h ps xs u =
+    fed a 0 xs (holding h ps) (holding h []) (bare ps) (rw append-nil) ∙ ap (behind (bare ps)) (grown-on h xs u)
+
+whole-then : (a : ℕ) (q r : List ℕ) → Good q → cutBy (feed a (holding nothing []) (q ++ r)) ≡ behind (q ∷ []) (cutBy (feed a (holding nothing []) r))
+whole-then a [] r g = absurd (omega (arith, g .least))
+whole-then a (x ∷ q) r g =
+    ap cutBy (feed-append a (holding nothing []) (x ∷ q) r)
+    ∙ fed a a r (feed a (holding nothing []) (x ∷ q)) (holding nothing []) ((x ∷ q) ∷ []) (feed-whole a nothing x q [] g)
+
+pub cuts-whole : CutsWhole
+unfolding cutOf
+cuts-whole s w =
+    let n : ℕ = lengthIn s in
+    let b : Whole s = whole-size s w in
+    let len : length (take n s) ≡ n = length-take-le n s (b .there) in
+    let same : lengthIn (take n s) ≡ n = length-said (take n s) (drop n s) s (take-append-drop n s) (omega (arith, b .least)) in
+    let g : Good (take n s) = record { least = omega (arith, b .least); greatest = omega (arith, b .greatest); says = omega arith } in
+    ap (λ (l : List ℕ). cutBy (feed 0 (holding nothing []) l)) (sym (take-append-drop n s)) ∙ whole-then 0 (take n s) (drop n s) g
+
+-- ---- the packets are the front of the octets
+
+record Front (w : Work) (s : List ℕ) : Type 0 where
+  rest : List ℕ
+  all : joined (bare (w .packets)) ++ rest ≡ s
+  kept : w .inStep ≡ true → rest ≡ w .held .octets
+
+push-front : (a : ℕ) (b : Bool) (h : Held) (ps : List Handed) (x : ℕ) (s : List ℕ) → Front (record { inStep = b; held = h; packets = ps }) s
+    → Front (push a (record { inStep = b; held = h; packets = ps }) x) (s ++ x ∷ [])
+unfolding push
+push-front a false h ps x s f = record {
+  rest = f .rest ++ x ∷ [];
+  all = sym (append-assoc (joined (bare ps)) (f .rest) (x ∷ [])) ∙ ap (λ (l : List ℕ). l ++ x ∷ []) (f .all);
+  kept = λ e. absurd (false≢true e);
+}
+push-front a true h ps x s f = go (status (h .octets ++ x ∷ []))
+  where
+    on : joined (bare ps) ++ (h .octets ++ x ∷ []) ≡ s ++ x ∷ []
+    on =
+        sym (append-assoc (joined (bare ps)) (h .octets) (x ∷ []))
+        ∙ ap (λ (l : List ℕ). (joined (bare ps) ++ l) ++ x ∷ []) (sym (f .kept refl))
+        ∙ ap (λ (l : List ℕ). l ++ x ∷ []) (f .all)
+
+    out : joined (bare (ps ++ given a (grown h x) ∷ [])) ++ [] ≡ s ++ x ∷ []
+    out =
+        append-nil (joined (bare (ps ++ given a (grown h x) ∷ [])))
+        ∙ ap joined (bare-append ps (given a (grown h x) ∷ []))
+        ∙ joined-append (bare ps) ((h .octets ++ x ∷ []) ∷ [])
+        ∙ ap (λ (l : List ℕ). joined (bare ps) ++ l) (append-nil (h .octets ++ x ∷ []))
+        ∙ on
+
+    go : (st : Status) → Front (settle a st (grown h x) ps) (s ++ x ∷ [])
+    go unfinished = record { rest = h .octets ++ x ∷ []; all = on; kept = λ e. refl }
+    go wrong = record { rest = h .octets ++ x ∷ []; all = on; kept = λ e. absurd (false≢true e) }
+    go whole = record { rest = []; all = out; kept = λ e. refl }
+
+feed-front : (a : ℕ) (xs : List ℕ) (w : Work) (s : List ℕ) → Front w s → Front (feed a w xs) (s ++ xs)
+feed-front a [] w s f = rw append-nil f
+feed-front a (x ∷ xs) w s f =
+    subst (Front (feed a (push a w x) xs)) (append-assoc s (x ∷ []) xs)
+    (feed-front a xs (push a w x) (s ++ x ∷ []) (push-front a (w .inStep) (w .held) (w .packets) x s f))
+
+pub cuts-front : CutsFront
+unfolding cutOf
+cuts-front s =
+    let w : Work = feed 0 (holding nothing []) s in
+    let f : Front w s = feed-front 0 s (holding nothing []) [] (record { rest = []; all = refl; kept = λ e. refl }) in
+    ap (take (length (joined (bare (w .packets))))) (sym (f .all)) ∙ take-append-seam (joined (bare (w .packets))) (f .rest)

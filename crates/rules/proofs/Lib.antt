@@ -1,0 +1,4 @@
+pub mod Status
+pub mod Bounds
+pub mod Cutting
+pub mod Step

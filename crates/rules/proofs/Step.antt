@@ -1,0 +1,75 @@
+-- The fields of a step's answer, each by itself.
+use mathlib.Core.Path.{_≡_, refl}
+use mathlib.Core.List.{List, [], _∷_, _++_}
+use mathlib.Core.Option.{Option, some}
+use mathlib.Core.Bool.{Bool, true, false, _&&_, cond}
+use Prim.Native.Nat.{ℕ, zero, suc}
+use lib.ListN.{drop}
+use lib.Dec.{eqb}
+use Rattle.rules.specs.Channel.{Piece, Held, nothing, grown, Handed, given, Status, unfinished, whole, wrong, status, Work, outOfStep, holding, settle, push, feed, fits, enter, follow, lostSince, Channel, afterLoss, step}
+use Rattle.rules.specs.Bounds.{Under, StepArrivals}
+
+-- what rules 1 to 5 make of the frame
+abbrev pub workOf : ℕ → Channel → Piece → Work
+workOf a c f = afterLoss a (lostSince (c .last) (f .count)) (c .inStep) (c .held) (f .pointer) (f .octets)
+
+module _ (a : ℕ) (c : Channel) (f : Piece) where
+  pub step-lost : step a c f .lost ≡ lostSince (c .last) (f .count)
+  unfolding step
+  step-lost = refl
+
+  pub step-last : step a c f .next .last ≡ some (f .count)
+  unfolding step
+  step-last = refl
+
+  pub step-in-step : step a c f .next .inStep ≡ workOf a c f .inStep
+  unfolding step
+  step-in-step = refl
+
+  pub step-held : step a c f .next .held ≡ workOf a c f .held
+  unfolding step
+  step-held = refl
+
+  pub step-packets : step a c f .packets ≡ workOf a c f .packets
+  unfolding step
+  step-packets = refl
+
+-- ---- every packet carries the frame's arrival number
+
+under-more : (a : ℕ) (ps : List Handed) (p : Handed) → Under a ps → p .arrival ≡ a → Under a (ps ++ p ∷ [])
+under-more a [] p u e = (e, tt)
+under-more a (q ∷ ps) p u e = (u .0, under-more a ps p (u .1) e)
+
+settle-under : (a : ℕ) (st : Status) (h : Held) (ps : List Handed) → Under a ps → Under a (settle a st h ps .packets)
+settle-under a unfinished h ps u = u
+settle-under a wrong h ps u = u
+settle-under a whole h ps u = under-more a ps (given a h) u refl
+
+push-under : (a : ℕ) (b : Bool) (h : Held) (ps : List Handed) (x : ℕ) → Under a ps
+    → Under a (push a (record { inStep = b; held = h; packets = ps }) x .packets)
+unfolding push
+push-under a true h ps x u = settle-under a (status (grown h x .octets)) (grown h x) ps u
+push-under a false h ps x u = u
+
+feed-under : (a : ℕ) (xs : List ℕ) (w : Work) → Under a (w .packets) → Under a (feed a w xs .packets)
+feed-under a [] w u = u
+feed-under a (x ∷ xs) w u = feed-under a xs (push a w x) (push-under a (w .inStep) (w .held) (w .packets) x u)
+
+either : (a : ℕ) (b : Bool) (x y : Work) → Under a (x .packets) → Under a (y .packets) → Under a (cond b x y .packets)
+either a true x y u v = u
+either a false x y u v = v
+
+follow-under : (a : ℕ) (b : Bool) (h : Held) (pointer : ℕ) (xs : List ℕ) → Under a (follow a b h pointer xs .packets)
+unfolding follow enter
+follow-under a b h pointer xs =
+    either a (eqb pointer 254) _ _ tt
+    (either a (b && fits (h .octets) pointer xs) _ _ (feed-under a xs (holding h []) tt)
+    (either a (eqb pointer 255) _ _ tt (feed-under a (drop pointer xs) (holding nothing []) tt)))
+
+loss-under : (a n : ℕ) (b : Bool) (h : Held) (pointer : ℕ) (xs : List ℕ) → Under a (afterLoss a n b h pointer xs .packets)
+loss-under a zero b h pointer xs = follow-under a b h pointer xs
+loss-under a (suc n) b h pointer xs = follow-under a false nothing pointer xs
+
+pub step-arrivals : StepArrivals
+unfolding step
+step-arrivals a c f = loss-under a (lostSince (c .last) (f .count)) (c .inStep) (c .held) (f .pointer) (f .octets)

@@ -1,0 +1,44 @@
+-- Rule 5 a packet at a time, for code that cuts packets out of octets.
+use Prim.Native.Nat.{ℕ}
+use mathlib.Core.Path.{_≡_}
+use mathlib.Core.List.{List, [], _∷_, _++_}
+use mathlib.Core.Bool.{Bool, true, false}
+use lib.ListN.{length, take, drop}
+use Rattle.rules.specs.Channel.{Held, nothing, Handed, Work, holding, feed, status, unfinished, whole, wrong, lengthIn}
+use Rattle.rules.specs.Packets.{joined, bare}
+
+-- What of a channel's work does not depend on arrival numbers: in step or not, the octets held, the packets handed out.
+pub record Cut : Type 0 where
+  pub inStep : Bool
+  pub held : List ℕ
+  pub packets : List (List ℕ)
+
+abbrev pub cutBy : Work → Cut
+cutBy w = record { inStep = w .inStep; held = w .held .octets; packets = bare (w .packets) }
+
+-- Rule 5 on octets that begin at a packet's first octet.
+unfoldable pub cutOf : List ℕ → Cut
+cutOf s = cutBy (feed 0 (holding nothing []) s)
+
+-- The same with packets cut before.
+abbrev pub behind : List (List ℕ) → Cut → Cut
+behind ps c = record { inStep = c .inStep; held = c .held; packets = ps ++ c .packets }
+
+-- What is held and the frame's octets are cut as one, under any arrival number.
+abbrev pub CutsOn : Type 0
+CutsOn = (a : ℕ) (h : Held) (ps : List Handed) (xs : List ℕ) → status (h .octets) ≡ unfinished
+    → cutBy (feed a (holding h ps) xs) ≡ behind (bare ps) (cutOf (h .octets ++ xs))
+
+-- An unfinished packet is held; a wrong length drops the rest; a whole packet is handed out and the rest is cut.
+abbrev pub CutsUnfinished : Type 0
+CutsUnfinished = (s : List ℕ) → status s ≡ unfinished → cutOf s ≡ record { inStep = true; held = s; packets = [] }
+
+abbrev pub CutsWrong : Type 0
+CutsWrong = (s : List ℕ) → status s ≡ wrong → cutOf s ≡ record { inStep = false; held = []; packets = [] }
+
+abbrev pub CutsWhole : Type 0
+CutsWhole = (s : List ℕ) → status s ≡ whole → cutOf s ≡ behind (take (lengthIn s) s ∷ []) (cutOf (drop (lengthIn s) s))
+
+-- The packets are the front of the octets.
+abbrev pub CutsFront : Type 0
+CutsFront = (s : List ℕ) → take (length (joined (cutOf s .packets))) s ≡ joined (cutOf s .packets)
