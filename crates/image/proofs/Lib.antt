@@ -1,1 +1,3 @@
 pub mod Same
+pub mod Overlays
+pub mod TwoLines
