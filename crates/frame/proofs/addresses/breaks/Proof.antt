@@ -1,0 +1,12 @@
+use native.Mathlib.Omega.{arith}
+use borrow.Author.Needs.{needs}
+use Rattle.frame.proofs.addresses.breaks.Statement.{statement}
+use Rattle.frame.proofs.addresses.breaks.Tie as tie
+
+returns : tie.Need-returns
+returns c = simp (c .sign .ensures, c .before .strange .ensures)
+
+pub breaks-spec : {M : Type 1} → statement M
+breaks-spec = tie.close
+    (tie.spec
+    (λ c κs. search needs) (λ c κs. search needs) returns)

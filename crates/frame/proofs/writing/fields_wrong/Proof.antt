@@ -1,0 +1,26 @@
+use Rattle.octets.proofs.Tests.{tests}
+use borrow.Author.Tests.{le-ltb}
+use Rattle.frame.specs.Writer.{fieldsWrong}
+use native.Mathlib.Omega.{arith}
+use borrow.Author.Needs.{needs}
+use Rattle.frame.proofs.writing.fields_wrong.Statement.{statement}
+use Rattle.frame.proofs.writing.fields_wrong.Tie as tie
+
+returns-2 : tie.Need-returns-2
+unfolding fieldsWrong
+returns-2 c =
+    let start = c .before .before .before .before .before .before .before .before .before .before in
+    simp (
+      le-ltb _ _ (start .if1 .left),
+      c .before .before .pointer-wrong .ensures,
+      c .before .callsign-wrong .ensures,
+      c .callsign-wrong2 .ensures,
+    )
+
+pub fields-wrong-spec : {M : Type 1} → statement M
+unfolding fieldsWrong
+fields-wrong-spec =
+    tie.close
+    (tie.spec
+    (λ c. search tests) (λ c. search needs) (λ c. search needs) (λ c κs. search needs) (λ c κs. search needs)
+    (λ c κs. search needs) returns-2)

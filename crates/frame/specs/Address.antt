@@ -1,0 +1,80 @@
+-- Document 01, 'The frame': an address is six characters, each shifted left one bit, low bit 0; then 011, a 4-bit SSID, and a last bit.
+use Prim.Native.Nat.{ℕ, _+_, _*_, _/_, _%_}
+use mathlib.Core.List.{List, [], _∷_}
+use mathlib.Core.Bool.{Bool, not, _&&_, _||_}
+use lib.Dec.{ltb, leb, eqb}
+use Rattle.octets.specs.Numbers.{at}
+use Rattle.octets.specs.Pick.{pick}
+use Rattle.frame.specs.declared.Callsign.{Callsign}
+use Rattle.frame.specs.declared.Address.{Address}
+
+-- A-Z, 0-9.
+abbrev pub sign : ℕ → Bool
+sign x = (leb 65 x && leb x 90) || (leb 48 x && leb x 57)
+
+abbrev pub space : ℕ
+space = 32
+
+-- Neither a letter or digit nor a space.
+abbrev pub strange : ℕ → Bool
+strange x = not (sign x) && not (eqb x space)
+
+-- What may not stand behind a character: a strange one, or a letter or digit behind a space.
+abbrev pub breaks : ℕ → ℕ → Bool
+breaks before x = strange x || (sign x && eqb before space)
+
+-- Not one to six of A-Z, 0-9, then only spaces.
+abbrev pub callsignWrong : Callsign → Bool
+callsignWrong c =
+    not (sign (c .0)) || breaks (c .0) (c .1) || breaks (c .1) (c .2) || breaks (c .2) (c .3) || breaks (c .3) (c .4)
+    || breaks (c .4) (c .5)
+
+-- ---- the seven octets
+
+abbrev pub odd : ℕ → Bool
+odd x = not (eqb (x % 2) 0)
+
+-- All six characters are shifted spaces, 0x40.
+abbrev pub blank : List ℕ → Bool
+blank s = eqb (at s 0) 64 && eqb (at s 1) 64 && eqb (at s 2) 64 && eqb (at s 3) 64 && eqb (at s 4) 64 && eqb (at s 5) 64
+
+-- The first octet is wrong for its low bit, for a strange character, and for an all-blank callsign.
+abbrev pub startWrong : List ℕ → Bool
+startWrong s = odd (at s 0) || strange (at s 0 / 2) || blank s
+
+-- A later character's octet is wrong for its low bit, for a strange character, and for a letter or digit behind a space.
+abbrev pub nextWrong : ℕ → ℕ → Bool
+nextWrong before x = odd x || breaks (before / 2) (x / 2)
+
+-- The SSID octet is not 011, four bits, the last bit.
+abbrev pub ssidWrong : ℕ → ℕ → Bool
+ssidWrong x last = not (eqb (x / 32) 3) || not (eqb (x % 2) last)
+
+-- The first octet of an address that is wrong, 0 to 6, or 7 for none. The last bit is 0 (destination) or 1 (source).
+unfoldable pub firstWrong : List ℕ → ℕ → ℕ
+firstWrong s last =
+    pick (startWrong s) 0
+    (pick (nextWrong (at s 0) (at s 1)) 1
+    (pick (nextWrong (at s 1) (at s 2)) 2
+    (pick (nextWrong (at s 2) (at s 3)) 3
+    (pick (nextWrong (at s 3) (at s 4)) 4
+    (pick (nextWrong (at s 4) (at s 5)) 5
+    (pick (ssidWrong (at s 6) last) 6 7))))))
+
+-- Whether there is one.
+abbrev pub addressWrong : List ℕ → ℕ → Bool
+addressWrong s last = ltb (firstWrong s last) 7
+
+-- ---- what stands in them, and back
+
+-- The characters, shifted back.
+abbrev pub callsignOf : List ℕ → Callsign
+callsignOf s = record { 0 = at s 0 / 2; 1 = at s 1 / 2; 2 = at s 2 / 2; 3 = at s 3 / 2; 4 = at s 4 / 2; 5 = at s 5 / 2 }
+
+abbrev pub addressOf : List ℕ → Address
+addressOf s = record { callsign = callsignOf s; ssid = at s 6 / 2 % 16 }
+
+abbrev pub addressOctets : Address → ℕ → List ℕ
+addressOctets a last =
+    (2 * a .callsign .0) ∷ (2 * a .callsign .1) ∷ (2 * a .callsign .2) ∷ (2 * a .callsign .3) ∷ (2 * a .callsign .4) ∷
+    (2 * a .callsign .5) ∷ (96 + 2 * a .ssid + last) ∷ []

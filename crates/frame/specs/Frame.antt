@@ -1,0 +1,117 @@
+-- Document 01, 'The frame': what a reader answers of octets and a time of t octets.
+use Prim.Native.Nat.{ℕ, zero, suc, _+_, _-_, _/_, _%_}
+use mathlib.Core.List.{List}
+use mathlib.Core.Bool.{Bool, not, _&&_, _||_}
+use lib.ListN.{length, take, drop}
+use lib.Dec.{ltb, eqb}
+use Rattle.octets.specs.Numbers.{at, word}
+use Rattle.octets.specs.Parts.{part}
+use Rattle.octets.specs.Pick.{pick}
+use Rattle.answer.specs.Told.{Told, accept, refuse}
+use Rattle.answer.specs.Refusals as no
+use Rattle.crc.specs.Check.{frameCheck}
+use Rattle.frame.specs.Address.{addressWrong, addressOf}
+use Rattle.frame.specs.declared.Address.{Address}
+use Rattle.frame.specs.declared.Frame.{Frame}
+use Rattle.frame.specs.declared.FrameRead.{FrameRead}
+use Rattle.frame.specs.declared.FrameRead.the-variants as read
+
+-- Every field 0.
+abbrev pub noAddress : Address
+noAddress = record { callsign = record { 0 = 0; 1 = 0; 2 = 0; 3 = 0; 4 = 0; 5 = 0 }; ssid = 0 }
+
+abbrev pub noFrame : Frame
+noFrame =
+    record {
+      destination = noAddress;
+      source = noAddress;
+      channel = 0;
+      master = record { 0 = 0 };
+      count = record { 0 = 0 };
+      pointer = 0;
+      telecommands = 0;
+      length = 0;
+    }
+
+abbrev pub told : FrameRead → Told Frame
+told (read.Frame f) = accept f
+told (read.Refused n) = refuse noFrame n
+
+-- ---- the refusals' lines
+
+-- 10: shorter than 23 + t or longer than 274.
+abbrev pub lengthWrong : ℕ → ℕ → Bool
+lengthWrong t n = ltb n (23 + t) || ltb 274 n
+
+-- 11: the last two octets, low octet first, aren't the check of those before.
+unfoldable pub checkWrong : List ℕ → Bool
+checkWrong s = not (eqb (word (at s (length s - 1)) (at s (length s - 2))) (frameCheck (take (length s - 2) s)))
+
+-- 12: destination, source, control 0x03 or protocol 0xF0.
+unfoldable pub headWrong : List ℕ → Bool
+headWrong s = addressWrong (take 7 s) 0 || addressWrong (take 7 (drop 7 s)) 1 || not (eqb (at s 14) 3) || not (eqb (at s 15) 240)
+
+-- 13: version 00, channel (3 bits), spare 000.
+abbrev pub versionWrong : ℕ → Bool
+versionWrong x = not (eqb (x / 64) 0) || not (eqb (x % 8) 0)
+
+-- The time flag: 0000 for t = 0, else 8 + (t - 1).
+abbrev pub flagOf : ℕ → ℕ
+flagOf zero = 0
+flagOf (suc n) = 8 + n
+
+-- 14: time flag (4 bits), spare 00, telecommand count (2 bits).
+unfoldable pub statusWrong : ℕ → ℕ → Bool
+statusWrong t x = not (eqb (x / 16) (flagOf t)) || not (eqb (x / 4 % 4) 0)
+
+-- 15, and the writer's 51: neither below the data's length, nor 255, nor 254 with data.
+unfoldable pub pointerWrong : ℕ → ℕ → Bool
+pointerWrong pointer n = not (ltb pointer n || eqb pointer 255 || (eqb pointer 254 && not (eqb n 0)))
+
+-- ---- what stands where
+
+-- The data's length: what is left of the frame beside 23 octets and the time.
+abbrev pub dataLength : ℕ → List ℕ → ℕ
+dataLength t s = length s - 23 - t
+
+-- The status octet: the one before the last t octets of the information, behind which the check's two stand.
+abbrev pub statusOf : ℕ → List ℕ → ℕ
+statusOf t s = at s (length s - 3 - t)
+
+unfoldable pub frameOf : ℕ → List ℕ → Frame
+frameOf t s =
+    record {
+      destination = addressOf (take 7 s);
+      source = addressOf (take 7 (drop 7 s));
+      channel = at s 16 / 8;
+      master = record { 0 = at s 17 };
+      count = record { 0 = at s 18 };
+      pointer = at s 19;
+      telecommands = statusOf t s % 4;
+      length = dataLength t s;
+    }
+
+-- The data and the time of a frame's octets; none if the octets have not all of them.
+abbrev pub dataOf : Frame → List ℕ → List ℕ
+dataOf f s = part s 20 (f .length)
+
+abbrev pub timeOf : Frame → ℕ → List ℕ → List ℕ
+timeOf f t s = part s (21 + f .length) t
+
+-- ---- the reader
+
+-- A frame of a right length: 11 to 15.
+unfoldable pub readWhole : ℕ → List ℕ → Told Frame
+readWhole t s =
+    pick (checkWrong s) (refuse noFrame no.frameCheck)
+    (pick (headWrong s) (refuse noFrame no.frameAddress)
+    (pick (versionWrong (at s 16)) (refuse noFrame no.frameVersion)
+    (pick (statusWrong t (statusOf t s)) (refuse noFrame no.frameStatus)
+    (pick (pointerWrong (at s 19) (dataLength t s)) (refuse noFrame no.framePointer)
+    (accept (frameOf t s))))))
+
+-- A single frame outside a session: 2, then 10 to 15.
+unfoldable pub readFrame : ℕ → List ℕ → Told Frame
+readFrame t s =
+    pick (ltb 8 t) (refuse noFrame no.timeLength)
+    (pick (lengthWrong t (length s)) (refuse noFrame no.frameLength) (readWhole t s))

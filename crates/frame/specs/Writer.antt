@@ -1,0 +1,40 @@
+-- Document 01, 'The frame': the octets of a frame's fields, n octets of data and a time of t octets.
+use Prim.Native.Nat.{ℕ, _+_, _-_, _*_}
+use mathlib.Core.List.{List, [], _∷_, _++_}
+use mathlib.Core.Bool.{Bool, not, _||_}
+use lib.Dec.{ltb, eqb}
+use Rattle.crc.specs.Check.{frameCheck, octetsOf}
+use Rattle.crc.specs.Check.Order.{lowFirst}
+use Rattle.frame.specs.Address.{callsignWrong, addressOctets}
+use Rattle.frame.specs.Frame.{flagOf, pointerWrong}
+use Rattle.frame.specs.declared.Frame.{Frame}
+
+-- 51, of fields that are lent n octets of data and m octets of time: t above 8, time not t octets, another length than the data's,
+-- data above 251 - t, a channel of 3 bits, telecommands of 2, SSIDs of 4, pointer wrong, callsigns wrong.
+unfoldable pub fieldsWrong : Frame → ℕ → ℕ → ℕ → Bool
+fieldsWrong f t n m =
+    ltb 8 t || (not (eqb m t) || not (eqb (f .length) n) || ltb (251 - t) n || ltb 7 (f .channel) || ltb 3 (f .telecommands)
+    || ltb 15 (f .destination .ssid) || ltb 15 (f .source .ssid) || pointerWrong (f .pointer) n
+    || callsignWrong (f .destination .callsign) || callsignWrong (f .source .callsign))
+
+-- Control, protocol, and the information's first four octets.
+abbrev pub headOf : Frame → List ℕ
+headOf f = 3 ∷ 240 ∷ (8 * f .channel) ∷ f .master .0 ∷ f .count .0 ∷ f .pointer ∷ []
+
+abbrev pub front : Frame → List ℕ
+front f = addressOctets (f .destination) 0 ++ addressOctets (f .source) 1 ++ headOf f
+
+abbrev pub statusOctet : Frame → ℕ → ℕ
+statusOctet f t = 16 * flagOf t + f .telecommands
+
+-- All before the check.
+abbrev pub body : Frame → ℕ → List ℕ → List ℕ → List ℕ
+body f t d m = front f ++ d ++ (statusOctet f t ∷ []) ++ m
+
+-- Octets with their check behind them, low octet first.
+unfoldable pub sealed : List ℕ → List ℕ
+sealed b = b ++ octetsOf lowFirst (frameCheck b)
+
+-- The frame of fields f, t, data d and time m.
+unfoldable pub frameOctets : Frame → ℕ → List ℕ → List ℕ → List ℕ
+frameOctets f t d m = sealed (body f t d m)

@@ -1,0 +1,153 @@
+// One address: six shifted characters and the SSID octet.
+ghost use mathlib.Core.Path.{_≡_};
+ghost use lib.ListN.{length};
+ghost use Prim.Native.Nat.{_≤_};
+ghost use Rattle.frame.specs.Address.{sign, strange, breaks, callsignWrong, blank, startWrong, nextWrong, ssidWrong, firstWrong, callsignOf, addressOf, addressOctets};
+ghost use Rattle.frame.specs.Asked.{Fits};
+use super::Address;
+use super::Callsign;
+
+// An address's octets.
+pub(crate) const LENGTH: usize = 7;
+
+// What first_wrong answers where no octet is wrong.
+pub(crate) const NONE: u8 = 7;
+
+const SPACE: u8 = 32;
+
+// A space, shifted.
+const BLANK: u8 = 64;
+
+// Whether x is a letter or digit.
+fn sign(x: u8) -> bool
+    ensures { λ r. ⌜ r ≡ sign x ⌝ }
+{
+    ((65 <= x) & (x <= 90)) | ((48 <= x) & (x <= 57))
+}
+
+// Whether x is neither a letter or digit nor a space.
+fn strange(x: u8) -> bool
+    ensures { λ r. ⌜ r ≡ strange x ⌝ }
+{
+    !sign(x) & (x != SPACE)
+}
+
+// Whether x may not stand behind the character before.
+fn breaks(before: u8, x: u8) -> bool
+    ensures { λ r. ⌜ r ≡ breaks before x ⌝ }
+{
+    strange(x) | (sign(x) & (before == SPACE))
+}
+
+// Whether c is not one to six letters and digits, then only spaces.
+pub(crate) fn callsign_wrong(c: Callsign) -> bool
+    ensures { λ r. ⌜ r ≡ callsignWrong c ⌝ }
+{
+    !sign(c.0)
+        | breaks(c.0, c.1)
+        | breaks(c.1, c.2)
+        | breaks(c.2, c.3)
+        | breaks(c.3, c.4)
+        | breaks(c.4, c.5)
+}
+
+// Whether all six characters are spaces.
+fn blank(s: &[u8]) -> bool
+    requires { ⌜ 7 ≤ length (now s) ⌝ }
+    ensures { λ r. ⌜ r ≡ blank (now (s .entry)) ⌝ }
+{
+    (s[0] == BLANK)
+        & (s[1] == BLANK)
+        & (s[2] == BLANK)
+        & (s[3] == BLANK)
+        & (s[4] == BLANK)
+        & (s[5] == BLANK)
+}
+
+// Whether the first octet is wrong.
+fn start_wrong(s: &[u8]) -> bool
+    requires { ⌜ 7 ≤ length (now s) ⌝ }
+    ensures { λ r. ⌜ r ≡ startWrong (now (s .entry)) ⌝ }
+{
+    (s[0] % 2 != 0) | strange(s[0] / 2) | blank(s)
+}
+
+// Whether a later character's octet x is wrong behind the octet before.
+fn next_wrong(before: u8, x: u8) -> bool
+    ensures { λ r. ⌜ r ≡ nextWrong before x ⌝ }
+{
+    (x % 2 != 0) | breaks(before / 2, x / 2)
+}
+
+// Whether the SSID octet x is wrong, where the last bit is to be last.
+fn ssid_wrong(x: u8, last: u8) -> bool
+    ensures { λ r. ⌜ r ≡ ssidWrong x last ⌝ }
+{
+    (x / 32 != 3) | (x % 2 != last)
+}
+
+// The first wrong octet of an address, or NONE.
+pub(crate) fn first_wrong(s: &[u8], last: u8) -> u8
+    requires { ⌜ 7 ≤ length (now s) ⌝ }
+    ensures { λ r. ⌜ r ≡ firstWrong (now (s .entry)) last ⌝ }
+{
+    if start_wrong(s) {
+        return 0;
+    }
+    if next_wrong(s[0], s[1]) {
+        return 1;
+    }
+    if next_wrong(s[1], s[2]) {
+        return 2;
+    }
+    if next_wrong(s[2], s[3]) {
+        return 3;
+    }
+    if next_wrong(s[3], s[4]) {
+        return 4;
+    }
+    if next_wrong(s[4], s[5]) {
+        return 5;
+    }
+    if ssid_wrong(s[6], last) {
+        return 6;
+    }
+    NONE
+}
+
+// The six characters, each shifted back.
+fn callsign_of(s: &[u8]) -> Callsign
+    requires { ⌜ 7 ≤ length (now s) ⌝ }
+    ensures { λ r. ⌜ r ≡ callsignOf (now (s .entry)) ⌝ }
+{
+    Callsign(s[0] / 2, s[1] / 2, s[2] / 2, s[3] / 2, s[4] / 2, s[5] / 2)
+}
+
+// The address that stands in seven octets.
+pub(crate) fn address_of(s: &[u8]) -> Address
+    requires { ⌜ 7 ≤ length (now s) ⌝ }
+    ensures { λ r. ⌜ r ≡ addressOf (now (s .entry)) ⌝ }
+{
+    let callsign = callsign_of(s);
+    Address {
+        callsign,
+        ssid: s[6] / 2 % 16,
+    }
+}
+
+// The seven octets of an address.
+pub(crate) fn address_octets(a: Address, last: u8) -> [u8; 7]
+    requires { ⌜ Fits a × (last ≤ 1) ⌝ }
+    ensures { λ r. ⌜ r ≡ addressOctets a last ⌝ }
+{
+    let c = a.callsign;
+    [
+        2 * c.0,
+        2 * c.1,
+        2 * c.2,
+        2 * c.3,
+        2 * c.4,
+        2 * c.5,
+        96 + 2 * a.ssid + last,
+    ]
+}

@@ -1,0 +1,118 @@
+// The lines of the refusals 10 to 15, and the fields of a frame's octets.
+ghost use mathlib.Core.Path.{_≡_};
+ghost use lib.ListN.{length};
+ghost use Prim.Native.Nat.{_≤_};
+ghost use Rattle.frame.specs.Asked.{Whole};
+ghost use Rattle.frame.specs.Frame.{told, flagOf, lengthWrong, checkWrong, headWrong, versionWrong, statusWrong, pointerWrong, dataLength, statusOf, frameOf, readWhole};
+use super::Frame;
+use super::FrameRead;
+use super::addresses;
+use counts::ChannelCount;
+use counts::MasterCount;
+
+pub(crate) const CONTROL: u8 = 0x03;
+
+pub(crate) const PROTOCOL: u8 = 0xf0;
+
+// Whether a frame of n octets is too short or too long: refusal 10.
+pub(crate) fn length_wrong(t: usize, n: usize) -> bool
+    requires { ⌜ t ≤ 8 ⌝ }
+    ensures { λ r. ⌜ r ≡ lengthWrong t n ⌝ }
+{
+    (n < Frame::LEAST + t) | (Frame::GREATEST < n)
+}
+
+// Whether the last two octets, low octet first, aren't the check of those before: refusal 11.
+fn check_wrong(s: &[u8]) -> bool
+    requires { ⌜ 23 ≤ length (now s) ⌝ }
+    ensures { λ r. ⌜ r ≡ checkWrong (now (s .entry)) ⌝ }
+{
+    let n = s.len();
+    octets::word(s[n - 1], s[n - 2]) != crc::frame_check(&s[..n - 2])
+}
+
+// Whether an address, the control or the protocol octet is wrong: refusal 12.
+fn head_wrong(s: &[u8]) -> bool
+    requires { ⌜ 23 ≤ length (now s) ⌝ }
+    ensures { λ r. ⌜ r ≡ headWrong (now (s .entry)) ⌝ }
+{
+    (addresses::first_wrong(&s[0..7], 0) < addresses::NONE)
+        | (addresses::first_wrong(&s[7..14], 1) < addresses::NONE)
+        | (s[14] != CONTROL)
+        | (s[15] != PROTOCOL)
+}
+
+// Whether the information's first octet x has a version or a spare that isn't 0: refusal 13.
+fn version_wrong(x: u8) -> bool
+    ensures { λ r. ⌜ r ≡ versionWrong x ⌝ }
+{
+    (x / 64 != 0) | (x % 8 != 0)
+}
+
+// The time flag of a time of t octets.
+pub(crate) fn flag(t: usize) -> usize
+    requires { ⌜ t ≤ 8 ⌝ }
+    ensures { λ r. ⌜ r ≡ flagOf t ⌝ }
+{
+    if t == 0 {
+        return 0;
+    }
+    8 + (t - 1)
+}
+
+// Whether the status octet x has another flag than t's, or a spare that isn't 0: refusal 14.
+fn status_wrong(t: usize, x: u8) -> bool
+    requires { ⌜ t ≤ 8 ⌝ }
+    ensures { λ r. ⌜ r ≡ statusWrong t x ⌝ }
+{
+    (octets::wide(x / 16) != flag(t)) | (x / 4 % 4 != 0)
+}
+
+// Whether the pointer is wrong for n octets of data: refusal 15.
+pub(crate) fn pointer_wrong(pointer: u8, n: usize) -> bool
+    ensures { λ r. ⌜ r ≡ pointerWrong pointer n ⌝ }
+{
+    !((octets::wide(pointer) < n) | (pointer == 255) | ((pointer == 254) & (n != 0)))
+}
+
+// The fields that stand in a frame's octets.
+fn frame_of(t: usize, s: &[u8]) -> Frame
+    requires { ⌜ Whole t (now s) ⌝ }
+    ensures { λ r. ⌜ r ≡ frameOf t (now (s .entry)) ⌝ }
+{
+    let destination = addresses::address_of(&s[0..7]);
+    let source = addresses::address_of(&s[7..14]);
+    Frame {
+        destination,
+        source,
+        channel: s[16] / 8,
+        master: MasterCount(s[17]),
+        count: ChannelCount(s[18]),
+        pointer: s[19],
+        telecommands: s[s.len() - 3 - t] % 4,
+        length: s.len() - Frame::LEAST - t,
+    }
+}
+
+// What a frame of a right length is: its fields, or the first of the refusals 11 to 15.
+pub(crate) fn read_whole(t: usize, s: &[u8]) -> FrameRead
+    requires { ⌜ Whole t (now s) ⌝ }
+    ensures { λ r. ⌜ told r ≡ readWhole t (now (s .entry)) ⌝ }
+{
+    if check_wrong(s) {
+        return FrameRead::Refused(answer::FRAME_CHECK);
+    }
+    if head_wrong(s) {
+        return FrameRead::Refused(answer::FRAME_ADDRESS);
+    }
+    if version_wrong(s[Frame::HEADER]) {
+        return FrameRead::Refused(answer::FRAME_VERSION);
+    }
+    if status_wrong(t, s[s.len() - 3 - t]) {
+        return FrameRead::Refused(answer::FRAME_STATUS);
+    }
+    if pointer_wrong(s[19], s.len() - Frame::LEAST - t) {
+        return FrameRead::Refused(answer::FRAME_POINTER);
+    }
+    FrameRead::Frame(frame_of(t, s))
+}

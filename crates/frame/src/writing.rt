@@ -1,0 +1,105 @@
+// The octets of a frame.
+ghost use mathlib.Core.Path.{_≡_};
+ghost use lib.ListN.{length, take};
+ghost use Prim.Native.Nat.{_≤_};
+ghost use Rattle.octets.specs.Parts.{put, written};
+ghost use Rattle.crc.specs.Check.{frameCheck, octetsOf};
+ghost use Rattle.crc.specs.Check.Order.{lowFirst};
+ghost use Rattle.frame.specs.Asked.{FrontRoom, Room};
+ghost use Rattle.frame.specs.Writer.{fieldsWrong, headOf, front, statusOctet, body, frameOctets};
+use super::Frame;
+use super::addresses;
+use super::reading;
+
+// Whether a field is out of range, where n octets of data and m octets of time are lent: refusal 51.
+pub(crate) fn fields_wrong(f: Frame, t: usize, n: usize, m: usize) -> bool
+    ensures { λ r. ⌜ r ≡ fieldsWrong f t n m ⌝ }
+{
+    if 8 < t {
+        return true;
+    }
+    let destination = f.destination;
+    let source = f.source;
+    (m != t)
+        | (f.length != n)
+        | (Frame::GREATEST - Frame::LEAST - t < n)
+        | (7 < f.channel)
+        | (3 < f.telecommands)
+        | (15 < destination.ssid)
+        | (15 < source.ssid)
+        | reading::pointer_wrong(f.pointer, n)
+        | addresses::callsign_wrong(destination.callsign)
+        | addresses::callsign_wrong(source.callsign)
+}
+
+// The six octets after the addresses.
+fn head(f: Frame) -> [u8; 6]
+    requires { ⌜ f .channel ≤ 7 ⌝ }
+    ensures { λ r. ⌜ r ≡ headOf f ⌝ }
+{
+    let master = f.master;
+    let count = f.count;
+    [
+        reading::CONTROL,
+        reading::PROTOCOL,
+        8 * f.channel,
+        master.0,
+        count.0,
+        f.pointer,
+    ]
+}
+
+// The status octet.
+fn status(f: Frame, t: usize) -> u8
+    requires { ⌜ (t ≤ 8) × (f .telecommands ≤ 3) ⌝ }
+    ensures { λ r. ⌜ r ≡ statusOctet f t ⌝ }
+{
+    (16 * reading::flag(t)) as u8 + f.telecommands
+}
+
+// The frame's octets before the data, at the start of out; beyond them out stays.
+fn lay_front(f: Frame, out: &mut [u8])
+    requires { ⌜ FrontRoom f (now out) ⌝ }
+    ensures { λ r. ⌜ now (out .exit) ≡ written (front f) (now (out .entry)) ⌝ }
+{
+    let destination = addresses::address_octets(f.destination, 0);
+    let source = addresses::address_octets(f.source, 1);
+    let rest = head(f);
+    octets::put(out, 0, &destination);
+    octets::put(out, 7, &source);
+    octets::put(out, 14, &rest);
+}
+
+// The frame's octets before the check, at the start of out; beyond them out stays.
+fn lay_body(f: Frame, t: usize, data: &[u8], time: &[u8], out: &mut [u8])
+    requires { ⌜ Room f t (now «data») (now time) (now out) ⌝ }
+    ensures { λ r. ⌜ now (out .exit) ≡ written (body f t (now («data» .entry)) (now (time .entry))) (now (out .entry)) ⌝ }
+{
+    let status_at = data.len() + 20;
+    let time_at = status_at + 1;
+    let state = [status(f, t)];
+    lay_front(f, out);
+    octets::put(out, 20, data);
+    octets::put(out, status_at, &state);
+    octets::put(out, time_at, time);
+}
+
+// The check of the first n octets of out, put behind them; all else stays.
+fn seal(out: &mut [u8], n: usize)
+    requires { ⌜ n ≤ length (now out) ⌝ }
+    ensures { λ r. ⌜ now (out .exit) ≡ put (now (out .entry)) n (octetsOf lowFirst (frameCheck (take n (now (out .entry))))) ⌝ }
+{
+    let check = crc::frame_check(&out[..n]);
+    let tail = [(check % 256) as u8, (check / 256) as u8];
+    octets::put(out, n, &tail);
+}
+
+// The frame's octets at the start of out; beyond them out stays.
+pub(crate) fn lay(f: Frame, t: usize, data: &[u8], time: &[u8], out: &mut [u8])
+    requires { ⌜ Room f t (now «data») (now time) (now out) ⌝ }
+    ensures { λ r. ⌜ now (out .exit) ≡ written (frameOctets f t (now («data» .entry)) (now (time .entry))) (now (out .entry)) ⌝ }
+{
+    let n = data.len() + 21 + t;
+    lay_body(f, t, data, time, out);
+    seal(out, n);
+}
