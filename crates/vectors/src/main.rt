@@ -1,5 +1,6 @@
 // Runs the cases that stand on standard input through the public calls, and prints one line a case.
 mod checks;
+mod frames;
 mod input;
 mod packets;
 mod sequences;
@@ -17,6 +18,8 @@ fn run(c: &[u8]) {
         3 => sequences::missing(c),
         4 => packets::read(c),
         5 => packets::write(c),
+        6 => frames::read(c),
+        7 => frames::write(c),
         _ => text::say(b"no such kind"),
     }
     text::say(b"\n");
