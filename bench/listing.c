@@ -1,0 +1,341 @@
+/* The job of crates/decode in plain C: a recording on standard input, its listing on standard output.
+ * Written from document 01 alone; no header is needed, so that the kit's own clang builds it anywhere. */
+typedef unsigned char u8;
+typedef unsigned short u16;
+typedef unsigned int u32;
+typedef unsigned long size_t;
+typedef long ssize_t;
+
+ssize_t read(int, void *, size_t);
+ssize_t write(int, const void *, size_t);
+void *memcpy(void *, const void *, size_t);
+void *memmove(void *, const void *, size_t);
+
+enum { FRAME_LEAST = 23, FRAME_MOST = 274, HEADER = 16, PACKET_LEAST = 16, PACKET_MOST = 251, LENGTH_MOST = 1024 };
+enum { NONE_STARTS = 255, RAW = 254 };
+
+/* ---- Input and output */
+
+static u8 in[65536], out[65536];
+static u8 *in_at = in, *in_end = in, *out_at = out;
+static int failed;
+
+static void told(const char *text, size_t n) { write(2, text, n); }
+
+static void flush(void)
+{
+    for (u8 *p = out; p < out_at;) {
+        ssize_t n = write(1, p, (size_t)(out_at - p));
+        if (n <= 0) {
+            if (!failed)
+                told("write failed\n", 13);
+            failed = 1;
+            break;
+        }
+        p += n;
+    }
+    out_at = out;
+}
+
+/* Whether n octets stand at in_at, which may mean reading; whatever is to be written is written before. */
+static int have(size_t n)
+{
+    size_t held = (size_t)(in_end - in_at);
+    if (held >= n)
+        return 1;
+    flush();
+    memmove(in, in_at, held);
+    in_at = in;
+    in_end = in + held;
+    while ((size_t)(in_end - in) < n) {
+        ssize_t got = read(0, in_end, (size_t)(in + sizeof in - in_end));
+        if (got <= 0) {
+            if (got < 0)
+                told("read failed\n", 12);
+            return 0;
+        }
+        in_end += got;
+    }
+    return 1;
+}
+
+static u32 word(const u8 *p) { return (u32)p[0] << 8 | p[1]; }
+static u32 four(const u8 *p) { return word(p) << 16 | word(p + 2); }
+
+static void text(const char *s, size_t n)
+{
+    memcpy(out_at, s, n);
+    out_at += n;
+}
+
+static void number(u32 n)
+{
+    u8 digits[10], *p = digits + 10;
+    do
+        *--p = (u8)('0' + n % 10);
+    while (n /= 10);
+    while (p < digits + 10)
+        *out_at++ = *p++;
+}
+
+static void next(u32 n)
+{
+    *out_at++ = ' ';
+    number(n);
+}
+
+/* ---- The two checks */
+
+static u16 high_first[256], low_first[256];
+
+static void make_tables(void)
+{
+    for (u32 i = 0; i < 256; i++) {
+        u32 h = i << 8, l = i;
+        for (int k = 0; k < 8; k++) {
+            h = h & 0x8000 ? h << 1 ^ 0x1021 : h << 1;
+            l = l & 1 ? l >> 1 ^ 0x8408 : l >> 1;
+        }
+        high_first[i] = (u16)h;
+        low_first[i] = (u16)l;
+    }
+}
+
+static u32 packet_check(const u8 *p, size_t n)
+{
+    u32 s = 0xFFFF;
+    for (const u8 *e = p + n; p < e; p++)
+        s = (s << 8 & 0xFFFF) ^ high_first[s >> 8 ^ *p];
+    return s;
+}
+
+static u32 frame_check(const u8 *p, size_t n)
+{
+    u32 s = 0xFFFF;
+    for (const u8 *e = p + n; p < e; p++)
+        s = s >> 8 ^ low_first[(s ^ *p) & 0xFF];
+    return s ^ 0xFFFF;
+}
+
+/* ---- The frame */
+
+/* What an address octet is: a letter or digit, a space, or neither. */
+enum { OTHER, SIGN, SPACE };
+static u8 kind[256];
+
+static void make_kinds(void)
+{
+    for (u32 c = 'A'; c <= 'Z'; c++)
+        kind[c << 1] = SIGN;
+    for (u32 c = '0'; c <= '9'; c++)
+        kind[c << 1] = SIGN;
+    kind[' ' << 1] = SPACE;
+}
+
+static int address(const u8 *p, u8 last)
+{
+    int i = 0;
+    while (i < 6 && kind[p[i]] == SIGN)
+        i++;
+    if (i == 0)
+        return 0;
+    while (i < 6 && kind[p[i]] == SPACE)
+        i++;
+    return i == 6 && (p[6] & 0xE1) == (0x60 | last);
+}
+
+/* The refusal of a frame of n octets, or 0. */
+static int frame_refusal(const u8 *f, size_t n, size_t t)
+{
+    if (n < FRAME_LEAST + t || n > FRAME_MOST)
+        return 10;
+    if (frame_check(f, n - 2) != ((u32)f[n - 1] << 8 | f[n - 2]))
+        return 11;
+    if (!address(f, 0) || !address(f + 7, 1) || f[14] != 0x03 || f[15] != 0xF0)
+        return 12;
+    if (f[HEADER] & 0xC7)
+        return 13;
+    if ((f[n - 3 - t] & 0xFC) != (t ? (7 + t) << 4 : 0))
+        return 14;
+    size_t data = n - FRAME_LEAST - t;
+    u8 pointer = f[HEADER + 3];
+    if (pointer >= data && pointer != NONE_STARTS && !(pointer == RAW && data))
+        return 15;
+    return 0;
+}
+
+/* ---- The session */
+
+struct channel {
+    u8 heard, in_step, last;
+    u16 length;
+    u8 held[PACKET_MOST];
+};
+
+static struct channel channels[8];
+static u8 master_heard, master_last;
+
+struct piece {
+    const u8 *octets;
+    u32 length;
+};
+static struct piece packets[16];
+static u8 finished[PACKET_MOST];
+
+/* Rules 2 to 5 for one frame's data; how many packets it completes, which stand in `packets`. */
+static u32 take(struct channel *c, u32 pointer, const u8 *data, u32 n)
+{
+    u32 at = 0, count = 0;
+    if (pointer == RAW)
+        return 0;
+    if (c->in_step) {
+        u32 held = c->length, wanted = NONE_STARTS;
+        int wrong = 0;
+        if (!held) {
+            wanted = n ? 0 : NONE_STARTS;
+        } else if (held + n >= 6) {
+            u8 high = held > 4 ? c->held[4] : data[4 - held];
+            u8 low = held > 5 ? c->held[5] : data[5 - held];
+            u32 whole = ((u32)high << 8 | low) + 7;
+            wrong = whole < PACKET_LEAST || whole > PACKET_MOST;
+            if (!wrong) {
+                u32 rest = whole - held;
+                if (rest < n)
+                    wanted = rest;
+                if (pointer == wanted && rest <= n) {
+                    memcpy(finished, c->held, held);
+                    memcpy(finished + held, data, rest);
+                    packets[count++] = (struct piece){ finished, whole };
+                    c->length = 0;
+                    at = rest;
+                }
+            }
+        }
+        if (wrong || pointer != wanted) {
+            c->length = 0;
+            c->in_step = 0;
+            at = 0;
+        }
+    }
+    if (!c->in_step) {
+        if (pointer == NONE_STARTS)
+            return 0;
+        at = pointer;
+        c->in_step = 1;
+    }
+    if (c->length == 0)
+        while (n - at >= 6) {
+            u32 whole = word(data + at + 4) + 7;
+            if (whole < PACKET_LEAST || whole > PACKET_MOST) {
+                c->in_step = 0;
+                return count;
+            }
+            if (whole > n - at)
+                break;
+            packets[count++] = (struct piece){ data + at, whole };
+            at += whole;
+        }
+    memcpy(c->held + c->length, data + at, n - at);
+    c->length += n - at;
+    return count;
+}
+
+static u32 lost_since(u8 *heard, u8 *last, u8 count)
+{
+    u32 lost = *heard ? (u8)(count - *last - 1) : 0;
+    *heard = 1;
+    *last = count;
+    return lost;
+}
+
+/* ---- The listing */
+
+static int packet_refusal(const u8 *p, u32 n)
+{
+    if (n < PACKET_LEAST || n > PACKET_MOST || n != word(p + 4) + 7)
+        return 20;
+    if (packet_check(p, n))
+        return 21;
+    if ((p[0] & 0xF8) != 0x08 || (p[2] & 0xC0) != 0xC0 || p[6] != 0x10)
+        return 22;
+    return 0;
+}
+
+static void packet_line(u32 arrival, const u8 *p, u32 n)
+{
+    int refusal = packet_refusal(p, n);
+    *out_at++ = refusal ? 'Q' : 'P';
+    next(arrival);
+    if (refusal) {
+        next((u32)refusal);
+    } else {
+        next(word(p) & 0x7FF);
+        next(word(p + 2) & 0x3FFF);
+        next(p[7]);
+        next(p[8]);
+    }
+    next(n);
+    *out_at++ = '\n';
+}
+
+static void frame_lines(u32 arrival, const u8 *f, size_t n, size_t t)
+{
+    if (out_at > out + sizeof out - 1024)
+        flush();
+    number(arrival);
+    int refusal = frame_refusal(f, n, t);
+    next((u32)refusal);
+    if (refusal) {
+        text(" - - - -\n", 9);
+        return;
+    }
+    struct channel *c = &channels[f[HEADER] >> 3];
+    u32 lost = lost_since(&c->heard, &c->last, f[HEADER + 2]);
+    u32 master = lost_since(&master_heard, &master_last, f[HEADER + 1]);
+    if (lost) {
+        c->length = 0;
+        c->in_step = 0;
+    }
+    u32 count = take(c, f[HEADER + 3], f + HEADER + 4, (u32)(n - FRAME_LEAST - t));
+    next(f[HEADER] >> 3);
+    next(lost);
+    next(master);
+    next(count);
+    *out_at++ = '\n';
+    for (u32 i = 0; i < count; i++)
+        packet_line(arrival, packets[i].octets, packets[i].length);
+}
+
+/* Whether the recording is a good one. */
+static int listed(void)
+{
+    if (!have(5) || four(in_at) != 1 || in_at[4] > 8)
+        return 0;
+    size_t t = in_at[4];
+    in_at += 5;
+    text("arrival answer channel lost master packets\n", 43);
+    if (!have(4))
+        return 0;
+    u32 count = four(in_at);
+    in_at += 4;
+    for (u32 n = 0; n < count;) {
+        if (!have(2))
+            return 0;
+        size_t length = word(in_at);
+        if (length > LENGTH_MOST || !have(2 + length))
+            return 0;
+        frame_lines(++n, in_at + 2, length, t);
+        in_at += 2 + length;
+    }
+    return !have(1);
+}
+
+int main(void)
+{
+    make_tables();
+    make_kinds();
+    if (!listed())
+        text("bad recording\n", 14);
+    flush();
+    return 0;
+}

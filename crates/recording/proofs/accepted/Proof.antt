@@ -1,0 +1,71 @@
+use mathlib.Core.List.{append-assoc}
+use Rattle.recording.specs.Text.{acceptedLine, decimal}
+use Rattle.recording.proofs.Lines.{begin, next, ended}
+use Rattle.octets.specs.Pick.{pick}
+use native.Mathlib.Omega.{arith}
+use borrow.Author.Needs.{needs}
+use Rattle.recording.proofs.accepted.Statement.{statement}
+use Rattle.recording.proofs.accepted.Tie as tie
+use Rattle.recording.proofs.accepted.Reads as reads
+use Rattle.recording.proofs.accepted.Lts as lts
+use Rattle.recording.proofs.letter.Reads as letter-reads
+use Rattle.recording.proofs.number.Reads as number-reads
+
+-- src/lib.rt:147:9
+number-requires : tie.Need-number-requires
+number-requires c κs = search needs
+
+-- src/lib.rt:148:9
+letter-requires : tie.Need-letter-requires
+letter-requires c κs = search needs
+
+-- src/lib.rt:149:9
+number-requires-2 : tie.Need-number-requires-2
+number-requires-2 c κs = search needs
+
+-- src/lib.rt:150:9
+number-requires-3 : tie.Need-number-requires-3
+number-requires-3 c κs = search needs
+
+-- src/lib.rt:151:9
+number-requires-4 : tie.Need-number-requires-4
+number-requires-4 c κs = search needs
+
+-- src/lib.rt:152:5
+number-requires-5 : tie.Need-number-requires-5
+number-requires-5 c κs = search needs
+
+-- src/lib.rt:143:1
+same-length : tie.Need-same-length
+same-length c = search needs
+
+-- src/lib.rt:143:1
+returns : tie.Need-returns
+unfolding acceptedLine decimal pick
+returns c =
+    let p5 = c .before .before in
+    let p4 = p5 .before .before .before .before in
+    let p3 = p4 .before .before .before .before in
+    let p2 = p3 .before .before .before .before in
+    let p1 = p2 .before .before .before .before in
+    let p0 = p1 .before .before .before .before in
+    let t0 = begin _ _ _ _ (p0 .number .ensures) in
+    let t1 = next _ _ _ t0 (p1 .letter .ensures) in
+    let t2 = next _ _ _ t1 (p2 .number2 .ensures) in
+    let t3 = next _ _ _ t2 (p3 .number3 .ensures) in
+    let t4 = next _ _ _ t3 (p4 .number4 .ensures) in
+    let t5 = next _ _ _ t4 (p5 .number5 .ensures) in
+    ended _ t5 (simp append-assoc) (omega arith)
+
+pub accepted-spec : {M : Type 1} → statement M
+accepted-spec =
+    tie.close
+    (tie.spec
+    number-requires
+    letter-requires
+    number-requires-2
+    number-requires-3
+    number-requires-4
+    number-requires-5
+    same-length
+    returns)

@@ -1,0 +1,77 @@
+use mathlib.Core.List.{append-assoc}
+use Rattle.recording.specs.Text.{packetLine}
+use Rattle.recording.proofs.Lines.{begin, next, ended}
+use native.Mathlib.Omega.{arith}
+use borrow.Author.Needs.{needs}
+use Rattle.recording.proofs.taken.Statement.{statement}
+use Rattle.recording.proofs.taken.Tie as tie
+use Rattle.recording.proofs.taken.Reads as reads
+use Rattle.recording.proofs.taken.Lts as lts
+use Rattle.recording.proofs.letter.Reads as letter-reads
+use Rattle.recording.proofs.number.Reads as number-reads
+
+-- src/lib.rt:173:9
+letter-requires : tie.Need-letter-requires
+letter-requires c κs = search needs
+
+-- src/lib.rt:174:9
+number-requires : tie.Need-number-requires
+number-requires c κs = search needs
+
+-- src/lib.rt:175:9
+number-requires-2 : tie.Need-number-requires-2
+number-requires-2 c κs = search needs
+
+-- src/lib.rt:176:9
+number-requires-3 : tie.Need-number-requires-3
+number-requires-3 c κs = search needs
+
+-- src/lib.rt:177:9
+number-requires-4 : tie.Need-number-requires-4
+number-requires-4 c κs = search needs
+
+-- src/lib.rt:178:9
+number-requires-5 : tie.Need-number-requires-5
+number-requires-5 c κs = search needs
+
+-- src/lib.rt:179:5
+number-requires-6 : tie.Need-number-requires-6
+number-requires-6 c κs = search needs
+
+-- src/lib.rt:169:1
+same-length : tie.Need-same-length
+same-length c = search needs
+
+-- src/lib.rt:169:1
+returns : tie.Need-returns
+unfolding packetLine
+returns c =
+    let p6 = c .before .before in
+    let p5 = p6 .before .before .before .before in
+    let p4 = p5 .before .before .before .before in
+    let p3 = p4 .before .before .before .before in
+    let p2 = p3 .before .before .before .before in
+    let p1 = p2 .before .before .before .before in
+    let p0 = p1 .before .before .before .before in
+    let t0 = begin _ _ _ _ (p0 .letter .ensures) in
+    let t1 = next _ _ _ t0 (p1 .number .ensures) in
+    let t2 = next _ _ _ t1 (p2 .number2 .ensures) in
+    let t3 = next _ _ _ t2 (p3 .number3 .ensures) in
+    let t4 = next _ _ _ t3 (p4 .number4 .ensures) in
+    let t5 = next _ _ _ t4 (p5 .number5 .ensures) in
+    let t6 = next _ _ _ t5 (p6 .number6 .ensures) in
+    ended _ t6 (simp append-assoc) (omega arith)
+
+pub taken-spec : {M : Type 1} → statement M
+taken-spec =
+    tie.close
+    (tie.spec
+    letter-requires
+    number-requires
+    number-requires-2
+    number-requires-3
+    number-requires-4
+    number-requires-5
+    number-requires-6
+    same-length
+    returns)
