@@ -82,51 +82,51 @@ fn word(s: &[u8], high: usize, low: usize) -> u16
     octets::word(octet(s, high), octet(s, low))
 }
 
-fn success_of(s: &[u8]) -> Success
-    ensures { λ r. ⌜ r ≡ successOf (now (s .entry)) ⌝ }
+fn success_of(s: &[u8]) -> Content
+    ensures { λ r. ⌜ r ≡ Content.Success (successOf (now (s .entry))) ⌝ }
 {
-    Success {
+    Content::Success(Success {
         id: word(s, 14, 15),
         control: word(s, 16, 17),
-    }
+    })
 }
 
-fn failure_of(s: &[u8]) -> Failure
-    ensures { λ r. ⌜ r ≡ failureOf (now (s .entry)) ⌝ }
+fn failure_of(s: &[u8]) -> Content
+    ensures { λ r. ⌜ r ≡ Content.Failure (failureOf (now (s .entry))) ⌝ }
 {
-    Failure {
+    Content::Failure(Failure {
         id: word(s, 14, 15),
         control: word(s, 16, 17),
         code: word(s, 18, 19),
-    }
+    })
 }
 
-fn housekeeping_of(p: Packet, s: &[u8]) -> Housekeeping
+fn housekeeping_of(p: Packet, s: &[u8]) -> Content
     requires { ⌜ 1 ≤ p .length ⌝ }
-    ensures { λ r. ⌜ r ≡ housekeepingOf p (now (s .entry)) ⌝ }
+    ensures { λ r. ⌜ r ≡ Content.Housekeeping (housekeepingOf p (now (s .entry))) ⌝ }
 {
-    Housekeeping {
+    Content::Housekeeping(Housekeeping {
         sid: octet(s, 14),
         length: p.length - 1,
-    }
+    })
 }
 
-fn available_of(s: &[u8]) -> Available
-    ensures { λ r. ⌜ r ≡ availableOf (now (s .entry)) ⌝ }
+fn available_of(s: &[u8]) -> Content
+    ensures { λ r. ⌜ r ≡ Content.Available (availableOf (now (s .entry))) ⌝ }
 {
-    Available {
+    Content::Available(Available {
         image: word(s, 14, 15),
         ticks: octets::four(octet(s, 16), octet(s, 17), octet(s, 18), octet(s, 19)),
-    }
+    })
 }
 
-fn line_of(s: &[u8]) -> Line
-    ensures { λ r. ⌜ r ≡ lineOf (now (s .entry)) ⌝ }
+fn line_of(s: &[u8]) -> Content
+    ensures { λ r. ⌜ r ≡ Content.Line (lineOf (now (s .entry))) ⌝ }
 {
-    Line {
+    Content::Line(Line {
         image: word(s, 14, 15),
         line: octet(s, 16),
-    }
+    })
 }
 
 // The content of the packet s of a known pair, whose fields are p.
@@ -135,18 +135,18 @@ fn content_of(p: Packet, s: &[u8]) -> Content
     ensures { λ r. ⌜ r ≡ contentOf p (now (s .entry)) ⌝ }
 {
     if table::success(p) {
-        return Content::Success(success_of(s));
+        return success_of(s);
     }
     if table::failure(p) {
-        return Content::Failure(failure_of(s));
+        return failure_of(s);
     }
     if table::housekeeping(p) {
-        return Content::Housekeeping(housekeeping_of(p, s));
+        return housekeeping_of(p, s);
     }
     if table::available(p) {
-        return Content::Available(available_of(s));
+        return available_of(s);
     }
-    Content::Line(line_of(s))
+    line_of(s)
 }
 
 // Refusal 31: the source data is shorter or longer than the pair's may be.

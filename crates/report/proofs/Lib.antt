@@ -1,0 +1,5 @@
+pub mod Search
+pub mod Known
+pub mod Read
+pub mod Told
+pub mod Accepted
