@@ -11,24 +11,22 @@ use Rattle.frame.specs.Frame.{readFrame, dataOf, timeOf}
 use Rattle.frame.specs.Writer.{fieldsWrong, frameOctets}
 use Rattle.frame.specs.declared.Frame.{Frame}
 
--- The octets s read to the fields f, the data d and the time m.
-pub record ReadsTo (t : ℕ) (s : List ℕ) (f : Frame) (d m : List ℕ) : Type 0 where
-  pub fields : readFrame t s ≡ accept f
-  pub «data» : dataOf f s ≡ d
-  pub time : timeOf f t s ≡ m
+-- What was written is accepted and reads back to the same fields, data and time. (Fields that aren't wrong have t from 0 to 8.)
+pub record ReadBack (f : Frame) (t : ℕ) (d m : List ℕ) : Type 0 where
+  pub fields : readFrame t (frameOctets f t d m) ≡ accept f
+  pub «data» : dataOf f (frameOctets f t d m) ≡ d
+  pub time : timeOf f t (frameOctets f t d m) ≡ m
 
--- What is written reads back to the same fields, data and time. (Fields that aren't wrong have t from 0 to 8.)
 abbrev pub ReadsBack : Type 0
-ReadsBack =
-    (f : Frame) (t : ℕ) (d m : List ℕ) → fieldsWrong f t (length d) (length m) ≡ false → ReadsTo t (frameOctets f t d m) f d m
+ReadsBack = (f : Frame) (t : ℕ) (d m : List ℕ) → fieldsWrong f t (length d) (length m) ≡ false → ReadBack f t d m
 
--- What is accepted can be written, and is what the writer gives for those fields, data and time.
-pub record WrittenAs (t : ℕ) (s : List ℕ) (f : Frame) : Type 0 where
-  pub right : fieldsWrong f t (length (dataOf f s)) (length (timeOf f t s)) ≡ false
-  pub same : frameOctets f t (dataOf f s) (timeOf f t s) ≡ s
+-- What was accepted is what the writer gives for its fields, data and time, and the writer accepts them.
+pub record WrittenBack (f : Frame) (t : ℕ) (s : List ℕ) : Type 0 where
+  pub accepts : fieldsWrong f t (length (dataOf f s)) (length (timeOf f t s)) ≡ false
+  pub octets : frameOctets f t (dataOf f s) (timeOf f t s) ≡ s
 
 abbrev pub WritesBack : Type 0
-WritesBack = (t : ℕ) (s : List ℕ) (f : Frame) → ((i : ℕ) → at s i < 256) → readFrame t s ≡ accept f → WrittenAs t s f
+WritesBack = (t : ℕ) (s : List ℕ) (f : Frame) → ((i : ℕ) → at s i < 256) → readFrame t s ≡ accept f → WrittenBack f t s
 
 -- A pointer that is right for n octets of data.
 abbrev pub PointerRight : ℕ → ℕ → Type 0

@@ -1,0 +1,35 @@
+-- `Channel::left` meets its contract.
+use borrow.Author.Needs.{needs}
+use mathlib.Core.Path.{ap, _∙_}
+use mathlib.Core.Bool.{true}
+use mathlib.Core.List.{List}
+use Prim.Native.Nat.{ℕ}
+use Rattle.session.specs.Channel.{heldOf, channelOf, stored}
+use Rattle.session.proofs.Keeping.{left-all, left-all-short, left-some, left-some-short}
+use Rattle.session.proofs.Channel.left.Statement.{statement}
+use Rattle.session.proofs.Channel.left.Tie as tie
+
+holding-requires : tie.Need-holding-requires
+holding-requires c κs = left-all-short _ _ _ (c .before .before .before .pre) (c .if1 .taken)
+
+returns : tie.Need-returns
+returns c =
+    c .holding .ensures
+    ∙ ap (λ (l : List ℕ). stored (channelOf (c .before .before .before .before .args .count .0) true (heldOf l)))
+    (left-all _ _ _ (c .before .before .before .before .pre) (c .before .if1 .taken))
+
+holding-requires-2 : tie.Need-holding-requires-2
+holding-requires-2 c κs = left-some-short _ _ _ (c .before .before .before .before .before .pre) (c .before .before .if1 .left)
+
+returns-2 : tie.Need-returns-2
+returns-2 c =
+    c .holding2 .ensures
+    ∙ ap (λ (l : List ℕ). stored (channelOf (c .before .before .before .before .before .before .args .count .0) true (heldOf l)))
+    (left-some _ _ _ (c .before .before .before .before .before .before .pre) (c .before .before .before .if1 .left))
+
+pub left-spec : {M : Type 1} → statement M
+left-spec =
+    tie.close
+    (tie.spec
+    holding-requires returns (λ c. search needs) (λ c. search needs) (λ c. search needs) (λ c. search needs) holding-requires-2
+    returns-2)

@@ -1,0 +1,17 @@
+-- `Channel::lost` meets its contract.
+use borrow.Author.Needs.{needs}
+use Rattle.rules.specs.Channel.{lostSince}
+use Rattle.session.specs.Channel.{view}
+use Rattle.session.proofs.Channel.lost.Statement.{statement}
+use Rattle.session.proofs.Channel.lost.Tie as tie
+
+returns : tie.Need-returns
+unfolding lostSince view
+returns c = simp (c .before .before .if1 .taken) (c .lost .ensures)
+
+returns-2 : tie.Need-returns-2
+unfolding lostSince view
+returns-2 c = simp (c .if1 .left)
+
+pub lost-spec : {M : Type 1} → statement M
+lost-spec = tie.close (tie.spec (λ c κs. search needs) returns returns-2)

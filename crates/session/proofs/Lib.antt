@@ -1,0 +1,11 @@
+pub mod Fitting
+pub mod Following
+pub mod Going
+pub mod Joined
+pub mod Keeping
+pub mod Soundness
+pub mod Staying
+pub mod Stepping
+pub mod Taking
+pub mod Told
+pub mod Unique

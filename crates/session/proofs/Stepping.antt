@@ -1,0 +1,135 @@
+-- What a step gives, from what its parts gave.
+use Prim.Native.Nat.{ℕ, _+_, _≤_, _<_}
+use native.Mathlib.Omega.{arith}
+use mathlib.Core.Path.{_≡_, refl, sym, ap, _∙_, subst}
+use mathlib.Core.Bool.{Bool, true, false, _||_}
+use mathlib.Core.Logic.{⊎-elim}
+use mathlib.Core.List.{List, [], map}
+use lib.ListN.{length, getD, set}
+use lib.Dec.{ltb, eqb}
+use borrow.Author.Tests.{eq-eqb, ne-eqb, ltb-false}
+use Rattle.octets.specs.Parts.{written}
+use Rattle.octets.specs.Pick.{pick}
+use Rattle.octets.proofs.Tests.{or-left, or-right}
+use Rattle.answer.specs.Told.{Told, accept, refuse}
+use Rattle.answer.specs.Refusals as no
+use Rattle.frame.specs.Frame.{noFrame, readFrame, dataOf}
+use Rattle.frame.specs.Statements.{PointerRight, Accepted}
+use Rattle.frame.specs.declared.Frame.{Frame}
+use Rattle.rules.specs.Channel.{Work, afterLoss, lostSince, step}
+use Rattle.rules.specs.Packets.{bare, joined}
+use Rattle.session.specs.Channel.{lastOf, view, fresh, stored, unsound}
+use Rattle.session.specs.Step.{Outcome, told, refused, counted, channelAt, ruled, accepted, heeded, outcome, Gives}
+use Rattle.session.specs.Asked.{Points, Heard, Offered}
+use Rattle.session.specs.Kept.{Works}
+use Rattle.session.specs.declared.Channel.{Channel}
+use Rattle.session.specs.declared.Session.{Session}
+use Rattle.session.specs.declared.Stepped.{Stepped}
+use Rattle.session.specs.declared.StepAnswer.the-variants as answer
+use Rattle.session.specs.declared.channels.Followed.{Followed}
+
+-- ---- an accepted frame
+
+-- c is the frame's channel, wherever it was read from
+module _ (s : Session) (f : Frame) (xs : List ℕ) (i lost master : ℕ) (c : Channel) (ei : i ≡ f .channel) (ec : c ≡ channelAt s (f .channel))
+    (el : lost ≡ lostSince (view c .last) (f .count .0)) (em : master ≡ lostSince (lastOf (s .heard) (s .master .0)) (f .master .0))
+    (r : Followed) (out list out′ list′ : List ℕ)
+    (w : Works (afterLoss (s .arrival) lost (c .instep) (view c .held) (f .pointer) xs) (f .count .0) r out list out′ list′) where
+  abbrev work : Channel → ℕ → Work
+  work x n = afterLoss (s .arrival) n (x .instep) (view x .held) (f .pointer) xs
+
+  losses : lost ≡ lostSince (view (channelAt s (f .channel)) .last) (f .count .0)
+  losses = el ∙ ap (λ (x : Channel). lostSince (view x .last) (f .count .0)) ec
+
+  follows : Works (work (channelAt s (f .channel)) (lostSince (view (channelAt s (f .channel)) .last) (f .count .0))) (f .count .0) r out list out′ list′
+  follows =
+      subst (λ (n : ℕ). Works (work (channelAt s (f .channel)) n) (f .count .0) r out list out′ list′) losses
+      (subst (λ (x : Channel). Works (work x lost) (f .count .0) r out list out′ list′) ec w)
+
+  pub gives-accepted : Gives (accepted s f xs)
+      (record {
+        session = record { t = s .t; arrival = s .arrival; master = f .master; heard = true; channels = set (s .channels) i (r .channel) };
+        answer = answer.Accepted (s .arrival) (f .channel) lost master (r .packets);
+      })
+      out list out′ list′
+  unfolding accepted ruled step view
+  gives-accepted = record {
+    session = simp (ei, follows .channel);
+    answers = simp (losses, em, follows .packets);
+    octets = follows .octets;
+    lengths = follows .lengths;
+  }
+
+-- ---- the refusals in their order
+
+gives-refused : (s : Session) (n : ℕ) (r : Stepped) (out list : List ℕ) → r ≡ record { session = s; answer = answer.Refused n }
+    → Gives (refused s n) r out list out list
+gives-refused s n r out list e = record {
+  session = ap (λ (x : Stepped). x .session) e;
+  answers = ap (λ (x : Stepped). told (x .answer)) e;
+  octets = refl;
+  lengths = refl;
+}
+
+pointed : {pointer n : ℕ} → PointerRight pointer n → Points pointer n
+pointed w a b = ⊎-elim (λ l. l) (λ v. ⊎-elim (λ e. absurd (b e)) (λ e. absurd (a (e .0))) v) w
+
+module _ (s : Session) (frame out list : List ℕ) where
+  abbrev given : Outcome
+  given = outcome s frame (length out) (length list)
+
+  abbrev Scant : Bool
+  Scant = ltb (length out) 501 || ltb (length list) 16
+
+  turned : (n : ℕ) (r : Stepped) → given ≡ refused s n → r ≡ record { session = s; answer = answer.Refused n } → Gives given r out list out list
+  turned n r e h = subst (λ (o : Outcome). Gives o r out list out list) (sym e) (gives-refused s n r out list h)
+
+  pub scant : (r : Stepped) → Scant ≡ true → r ≡ record { session = s; answer = answer.Refused no.room } → Gives given r out list out list
+  unfolding outcome pick
+  scant r t h = turned no.room r (simp t) h
+
+  module _ (t : Scant ≡ false) where
+    pub room : 501 ≤ length out
+    room = ltb-false _ _ (or-left (ltb (length out) 501) (ltb (length list) 16) t)
+
+    pub entries : 16 ≤ length list
+    entries = ltb-false _ _ (or-right (ltb (length out) 501) (ltb (length list) 16) t)
+
+    pub not-sound : (r : Stepped) → unsound s ≡ true → r ≡ record { session = s; answer = answer.Refused no.session } → Gives given r out list out list
+    unfolding outcome pick
+    not-sound r u h = turned no.session r (simp (t, u)) h
+
+    module _ (u : unsound s ≡ false) where
+      pub used-up : (r : Stepped) → s .arrival ≡ 4294967295 → r ≡ record { session = s; answer = answer.Refused no.arrivals } → Gives given r out list out list
+      unfolding outcome pick
+      used-up r a h = turned no.arrivals r (simp (t, u, eq-eqb _ _ a)) h
+
+      -- what is asked of an accepted frame
+      pub offered : (f : Frame) (xs : List ℕ) → Accepted (s .t) frame f → xs ≡ dataOf f frame → Offered (counted s) f xs out list
+      unfolding unsound
+      offered f xs w e =
+          let l : length xs ≡ f .length = ap length e ∙ w .«data» in
+          record {
+            channel = w .channel;
+            sound = u;
+            heard = record { few = omega (arith, l, w .few); points = rw l (pointed (w .pointer)); room = room; entries = entries };
+          }
+
+      module _ (a : s .arrival ≡ 4294967295 → ⊥) where
+        is-heeded : given ≡ heeded (counted s) frame (readFrame (s .t) frame)
+        unfolding outcome pick
+        is-heeded = simp (t, u, ne-eqb _ _ a)
+
+        pub not-read : (n : ℕ) (r : Stepped) → refuse noFrame n ≡ readFrame (s .t) frame → r ≡ record { session = counted s; answer = answer.Refused n }
+            → Gives given r out list out list
+        unfolding pick
+        not-read n r e h =
+            subst (λ (o : Outcome). Gives o r out list out list) (sym (is-heeded ∙ ap (heeded (counted s) frame) (sym e)))
+            (gives-refused (counted s) n r out list h)
+
+        pub read : (f : Frame) (xs : List ℕ) (r : Stepped) (out′ list′ : List ℕ) → accept f ≡ readFrame (s .t) frame → xs ≡ dataOf f frame
+            → Gives (accepted (counted s) f xs) r out list out′ list′ → Gives given r out list out′ list′
+        unfolding pick
+        read f xs r out′ list′ e d h =
+            subst (λ (o : Outcome). Gives o r out list out′ list′) (sym (is-heeded ∙ ap (heeded (counted s) frame) (sym e)))
+            (subst (λ (l : List ℕ). Gives (accepted (counted s) f l) r out list out′ list′) d h)

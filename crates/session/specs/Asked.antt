@@ -1,0 +1,68 @@
+-- What the crate's private functions ask of their callers.
+use Prim.Native.Nat.{ℕ, _+_, _≤_, _<_}
+use mathlib.Core.Path.{_≡_}
+use mathlib.Core.List.{List, _++_}
+use mathlib.Core.Bool.{Bool, false}
+use lib.ListN.{length, drop}
+use Rattle.frame.specs.declared.Frame.{Frame}
+use Rattle.rules.specs.Channel.{status, unfinished}
+use Rattle.rules.specs.Bounds.{Sound}
+use Rattle.rules.specs.Cutting.{cutOf}
+use Rattle.session.specs.Channel.{channelUnsound, unsound}
+use Rattle.session.specs.declared.Channel.{Channel}
+use Rattle.session.specs.declared.Session.{Session}
+
+-- What is held begins a packet, and the data xs is no more than a frame has.
+pub record Begun (held xs : List ℕ) : Type 0 where
+  pub unfinished : status held ≡ unfinished
+  pub short : length held ≤ 250
+  pub few : length xs ≤ 251
+
+-- A list with an entry for each packet.
+pub record Counted (held xs list : List ℕ) : Type 0 where
+  pub begun : Begun held xs
+  pub entries : length (cutOf (held ++ xs) .packets) ≤ length list
+
+-- n octets of held and xs, which take up all that is held or are none, and room for them.
+pub record Front (held xs : List ℕ) (n : ℕ) (out : List ℕ) : Type 0 where
+  pub within : n ≤ length held + length xs
+  pub past : n < length held → n ≡ 0
+  pub room : n ≤ length out
+
+-- The same, and what is behind them can be held.
+pub record Left (held xs : List ℕ) (n : ℕ) : Type 0 where
+  pub within : n ≤ length held + length xs
+  pub past : n < length held → n ≡ 0
+  pub short : length (drop n (held ++ xs)) ≤ 250
+
+-- Room for all that is handed out.
+pub record Taken (held xs out list : List ℕ) : Type 0 where
+  pub begun : Begun held xs
+  pub most : length (cutOf (held ++ xs) .packets) ≤ 16
+  pub room : 501 ≤ length out
+  pub entries : 16 ≤ length list
+
+-- A pointer of a frame with n octets of data, as the frame's reader lets it pass.
+abbrev pub Points : ℕ → ℕ → Type 0
+Points pointer n = (pointer ≡ 254 → ⊥) → (pointer ≡ 255 → ⊥) → pointer < n
+
+-- A frame's data and pointer, and what is lent.
+pub record Heard (pointer : ℕ) (xs out list : List ℕ) : Type 0 where
+  pub few : length xs ≤ 251
+  pub points : Points pointer (length xs)
+  pub room : 501 ≤ length out
+  pub entries : 16 ≤ length list
+
+-- The same for a channel that is in step or not and holds these octets, for a channel, and for a session.
+pub record Followable (inStep : Bool) (held : List ℕ) (pointer : ℕ) (xs out list : List ℕ) : Type 0 where
+  pub sound : Sound inStep held
+  pub heard : Heard pointer xs out list
+
+pub record Asked (c : Channel) (pointer : ℕ) (xs out list : List ℕ) : Type 0 where
+  pub sound : channelUnsound c ≡ false
+  pub heard : Heard pointer xs out list
+
+pub record Offered (s : Session) (f : Frame) (xs out list : List ℕ) : Type 0 where
+  pub channel : f .channel < 8
+  pub sound : unsound s ≡ false
+  pub heard : Heard (f .pointer) xs out list

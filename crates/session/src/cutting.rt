@@ -1,0 +1,118 @@
+// Packets cut by their lengths out of the octets that a channel holds and the octets of a frame behind them.
+ghost use mathlib.Core.Path.{_≡_};
+ghost use mathlib.Core.List.{_++_};
+ghost use Prim.Native.Nat.{_+_, _≤_, _<_};
+ghost use lib.ListN.{length, take, drop};
+ghost use lib.Dec.{eqb};
+ghost use Rattle.octets.specs.Parts.{written};
+ghost use Rattle.octets.specs.Numbers.{at};
+ghost use Rattle.rules.specs.Channel.{lengthIn, fits, pointerTo};
+ghost use Rattle.session.specs.Asked.{Begun, Counted, Front};
+ghost use Rattle.session.specs.Kept.{Cuts};
+
+// The packets found: how many, how many octets they have, and in step or not afterwards.
+pub(crate) struct Found {
+    pub packets: usize,
+    pub octets: usize,
+    pub instep: bool,
+}
+
+// The octet at index i of held and data end to end.
+fn octet(held: &[u8], data: &[u8], i: usize) -> u8
+    requires { ⌜ i < length (now held) + length (now «data») ⌝ }
+    ensures { λ r. ⌜ r ≡ at (now (held .entry) ++ now («data» .entry)) i ⌝ }
+{
+    let k = held.len();
+    if i < k {
+        return held[i];
+    }
+    data[i - k]
+}
+
+// The length that the packet from index i on says of itself.
+fn length_at(held: &[u8], data: &[u8], i: usize) -> usize
+    requires { ⌜ i + 6 ≤ length (now held) + length (now «data») ⌝ }
+    ensures { λ r. ⌜ r ≡ lengthIn (drop i (now (held .entry) ++ now («data» .entry))) ⌝ }
+{
+    let high = octet(held, data, i + 4);
+    let low = octet(held, data, i + 5);
+    octets::word(high, low) as usize + 7
+}
+
+// Whether the pointer of a frame with n octets of data tells that a header starts at place.
+fn points(pointer: u8, place: usize, n: usize) -> bool
+    ensures { λ r. ⌜ r ≡ eqb pointer (pointerTo place n) ⌝ }
+{
+    if place < n {
+        return octets::wide(pointer) == place;
+    }
+    pointer == 255
+}
+
+// Whether a frame with this pointer and this data goes on from what is held: rule 3.
+pub(crate) fn fits(held: &[u8], data: &[u8], pointer: u8) -> bool
+    requires { ⌜ Begun (now held) (now «data») ⌝ }
+    ensures { λ r. ⌜ r ≡ fits (now (held .entry)) pointer (now («data» .entry)) ⌝ }
+{
+    let k = held.len();
+    let n = data.len();
+    if k == 0 {
+        return points(pointer, 0, n);
+    }
+    if k + n < 6 {
+        return points(pointer, n, n);
+    }
+    let whole = length_at(held, data, 0);
+    if (whole < 16) | (251 < whole) {
+        return false;
+    }
+    points(pointer, whole - k, n)
+}
+
+// The packets that held and data end to end begin with; their lengths are at the start of lengths.
+pub(crate) fn cut(held: &[u8], data: &[u8], lengths: &mut [u16]) -> Found
+    requires { ⌜ Counted (now held) (now «data») (now lengths) ⌝ }
+    ensures { λ r. ⌜ Cuts (now (held .entry)) (now («data» .entry)) r (now (lengths .entry)) (now (lengths .exit)) ⌝ }
+{
+    let all = held.len() + data.len();
+    let mut packets = 0;
+    let mut at = 0;
+    while 6 <= all - at {
+        let n = length_at(held, data, at);
+        if (n < 16) | (251 < n) {
+            return Found {
+                packets,
+                octets: at,
+                instep: false,
+            };
+        }
+        if all - at < n {
+            return Found {
+                packets,
+                octets: at,
+                instep: true,
+            };
+        }
+        lengths[packets] = n as u16;
+        packets += 1;
+        at += n;
+    }
+    Found {
+        packets,
+        octets: at,
+        instep: true,
+    }
+}
+
+// The first n octets of held and data end to end, at the start of out.
+pub(crate) fn hand_out(held: &[u8], data: &[u8], n: usize, out: &mut [u8])
+    requires { ⌜ Front (now held) (now «data») n (now out) ⌝ }
+    ensures { λ r. ⌜ now (out .exit) ≡ written (take n (now (held .entry) ++ now («data» .entry))) (now (out .entry)) ⌝ }
+{
+    let k = held.len();
+    if n < k {
+        return;
+    }
+    octets::put(out, 0, held);
+    octets::put(out, k, &data[..n - k]);
+}

@@ -1,0 +1,196 @@
+// A session: eight virtual channels that take frames one after another and hand out packets.
+ghost use mathlib.Core.Path.{_≡_};
+ghost use mathlib.Core.Bool.{false};
+ghost use Prim.Native.Nat.{_<_};
+ghost use Rattle.rules.specs.Channel.{lostSince};
+ghost use Rattle.session.specs.Channel.{lastOf, fresh, unsound};
+ghost use Rattle.session.specs.Open.{opened, Opens};
+ghost use Rattle.session.specs.Step.{accepted, Gives, Steps};
+ghost use Rattle.session.specs.Asked.{Offered};
+use counts::ChannelCount;
+use counts::MasterCount;
+use frame::Frame;
+use frame::FrameRead;
+
+mod channels;
+mod cutting;
+
+// A virtual channel: its last count if a frame was heard, in step or not, and how many octets at the start of held are held.
+pub struct Channel {
+    pub last: ChannelCount,
+    pub heard: bool,
+    pub instep: bool,
+    pub length: u8,
+    pub held: [u8; 250],
+}
+
+// A session: t, the last arrival number used, the last master count if a frame was heard, and the eight channels.
+pub struct Session {
+    pub t: u8,
+    pub arrival: u32,
+    pub master: MasterCount,
+    pub heard: bool,
+    pub channels: [Channel; 8],
+}
+
+// What opening answers: accepted, or the refusal's number.
+pub enum OpenAnswer {
+    Accepted,
+    Refused(u16),
+}
+
+// The opened session beside the answer.
+pub struct Opened {
+    pub session: Session,
+    pub answer: OpenAnswer,
+}
+
+// What a step answers: the frame's arrival number and channel, the frames lost on it and over all, and how many packets were handed
+// out; or the refusal's number.
+pub enum StepAnswer {
+    Accepted {
+        arrival: u32,
+        channel: u8,
+        lost: u8,
+        master: u8,
+        packets: u8,
+    },
+    Refused(u16),
+}
+
+// The next session beside the answer.
+pub struct Stepped {
+    pub session: Session,
+    pub answer: StepAnswer,
+}
+
+impl Session {
+    // The session that heard nothing yet.
+    fn fresh(t: u8, last: u32) -> Session
+        ensures { λ r. ⌜ r ≡ opened t last ⌝ }
+    {
+        let channel = Channel::fresh();
+        Session {
+            t,
+            arrival: last,
+            master: MasterCount(0),
+            heard: false,
+            channels: [channel; 8],
+        }
+    }
+
+    // A fresh session of t whose last arrival number used is last; else 2, and a fresh one of t = 0.
+    pub fn open(t: u8, last: u32) -> Opened
+        ensures { λ r. ⌜ Opens t last r ⌝ }
+    {
+        if 8 < t {
+            let session = Session::fresh(0, 0);
+            return Opened {
+                session,
+                answer: OpenAnswer::Refused(answer::TIME_LENGTH),
+            };
+        }
+        let session = Session::fresh(t, last);
+        Opened {
+            session,
+            answer: OpenAnswer::Accepted,
+        }
+    }
+
+    // Whether refusal 4 holds of the session.
+    fn unsound(self) -> bool
+        ensures { λ r. ⌜ r ≡ unsound self ⌝ }
+    {
+        if 8 < self.t {
+            return true;
+        }
+        let mut i = 0;
+        while i < 8 {
+            let channel = self.channels[i];
+            if channel.unsound() {
+                return true;
+            }
+            i += 1;
+        }
+        false
+    }
+
+    // How many frames of all channels were lost before the one with this master count.
+    fn lost(self, master: MasterCount) -> u8
+        ensures { λ r. ⌜ r ≡ lostSince (lastOf (self .heard) (self .master .0)) (master .0) ⌝ }
+    {
+        if self.heard {
+            let last = self.master;
+            return master.lost(last);
+        }
+        0
+    }
+
+    // The session as it is, and a refusal.
+    fn refused(self, refusal: u16) -> Stepped
+        ensures { λ r. ⌜ r ≡ record { session = self; answer = StepAnswer.Refused refusal } ⌝ }
+    {
+        let answer = StepAnswer::Refused(refusal);
+        Stepped {
+            session: self,
+            answer,
+        }
+    }
+
+    // The session after an accepted frame f with this data, whose arrival number it has already: f's channel is replaced, and its
+    // packets are at the start of octets, their lengths at the start of lengths.
+    fn accepted(self, f: Frame, data: &[u8], octets: &mut [u8], lengths: &mut [u16]) -> Stepped
+        requires { ⌜ Offered self f (now «data») (now octets) (now lengths) ⌝ }
+        ensures { λ r. ⌜ Gives (accepted self f (now («data» .entry))) r (now (octets .entry)) (now (lengths .entry)) (now (octets .exit)) (now (lengths .exit)) ⌝ }
+    {
+        let i = octets::wide(f.channel);
+        let channel = self.channels[i];
+        let count = f.count;
+        let lost = channel.lost(count);
+        let followed = channel.followed(lost, count, f.pointer, data, octets, lengths);
+        let count = f.master;
+        let master = self.lost(count);
+        let answer = StepAnswer::Accepted {
+            arrival: self.arrival,
+            channel: f.channel,
+            lost,
+            master,
+            packets: followed.packets,
+        };
+        let mut next = self;
+        let channel = followed.channel;
+        next.channels[i] = channel;
+        next.master = count;
+        next.heard = true;
+        Stepped {
+            session: next,
+            answer,
+        }
+    }
+
+    // The session after a frame is offered, with the packets that the frame completes end to end at the start of octets, and their
+    // lengths at the start of lengths; else the first of 1, 4, 3 and the frame's 10 to 15, which alone use up an arrival number.
+    // What is lent stays beyond that.
+    pub fn step(self, frame: &[u8], octets: &mut [u8], lengths: &mut [u16]) -> Stepped
+        ensures { λ r. ⌜ Steps self (now (frame .entry)) (now (octets .entry)) (now (lengths .entry)) r (now (octets .exit)) (now (lengths .exit)) ⌝ }
+    {
+        if (octets.len() < 501) | (lengths.len() < 16) {
+            return self.refused(answer::ROOM);
+        }
+        if self.unsound() {
+            return self.refused(answer::SESSION);
+        }
+        if self.arrival == 4294967295 {
+            return self.refused(answer::ARRIVALS);
+        }
+        let mut next = self;
+        next.arrival = self.arrival + 1;
+        match Frame::read(self.t, frame) {
+            FrameRead::Refused(refusal) => next.refused(refusal),
+            FrameRead::Frame(f) => {
+                let data = f.data(frame);
+                next.accepted(f, data, octets, lengths)
+            }
+        }
+    }
+}
