@@ -1,5 +1,5 @@
 -- Two lines of one image, placed one after the other.
-use Prim.Native.Nat.{ℕ, _<_}
+use Prim.Native.Nat.{_<_}
 use mathlib.Core.Path.{_≡_}
 use Rattle.image.specs.Line.{Image, Line, Fits, placed}
 

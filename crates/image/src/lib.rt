@@ -4,7 +4,10 @@ ghost use lib.ListN.{length};
 ghost use Prim.Native.Nat.{_≤_, _<_};
 ghost use mathlib.Core.Bool.{not};
 ghost use Rattle.image.specs.Line.{imageOf, lineOf, same, heldOtherwise, number, placed, Fits};
-ghost use Rattle.image.specs.Placing.{outcome, placing};
+ghost use Rattle.image.specs.Placing.{outcome, placing, brought, after, Brings};
+use report::Content;
+use report::Report;
+use report::ReportRead;
 
 // What placing answers: which line was placed, or the refusal's number.
 pub enum Placed {
@@ -61,4 +64,64 @@ fn lay(n: usize, pixels: &[u8], arrival: u32, image: &mut [u8], lines: &mut [u32
 {
     octets::put(image, 188 * n, pixels);
     lines[n] = number(lines[n], arrival);
+}
+
+// Places a line, unless it is held with other pixels: refusal 42, and nothing lent changes.
+fn place_line(line: u8, pixels: &[u8], arrival: u32, image: &mut [u8], lines: &mut [u32]) -> Placed
+    requires { ⌜ Fits (imageOf (now image) (now lines)) (lineOf line (now pixels) arrival) ⌝ }
+    ensures { λ r. ⌜ outcome r (now (image .exit)) (now (lines .exit)) ≡ placing (imageOf (now (image .entry)) (now (lines .entry))) (lineOf line (now (pixels .entry)) arrival) ⌝ }
+{
+    let n = line as usize;
+    if held_otherwise(n, pixels, image, lines) {
+        return Placed::Refused(answer::LINE_HELD);
+    }
+    lay(n, pixels, arrival, image, lines);
+    Placed::Line(line)
+}
+
+// Places what a packet's report brings, if it is a line of the wanted image: else refusal 33, 41 or 42, and nothing lent changes.
+fn bring(
+    content: Content,
+    packet: &[u8],
+    arrival: u32,
+    wanted: u16,
+    image: &mut [u8],
+    lines: &mut [u32],
+) -> Placed
+    requires { ⌜ Brings content (now packet) (imageOf (now image) (now lines)) ⌝ }
+    ensures { λ r. ⌜ outcome r (now (image .exit)) (now (lines .exit)) ≡ brought (now (packet .entry)) arrival wanted (imageOf (now (image .entry)) (now (lines .entry))) content ⌝ }
+{
+    let Content::Line(l) = content else {
+        return Placed::Refused(answer::NOT_LINE);
+    };
+    if l.image != wanted {
+        return Placed::Refused(answer::IMAGE_OTHER);
+    }
+    place_line(l.line, l.pixels(packet), arrival, image, lines)
+}
+
+// Places the line that a packet brings at its place in the image, numbers it with its arrival number, and answers which line it is.
+// Of an equal second copy the smaller number stays. On a refusal nothing lent changes.
+pub fn place(
+    packet: &[u8],
+    arrival: u32,
+    wanted: u16,
+    image: &mut [u8],
+    lines: &mut [u32],
+) -> Placed
+    ensures { λ r. ⌜ outcome r (now (image .exit)) (now (lines .exit)) ≡ after (now (packet .entry)) arrival wanted (imageOf (now (image .entry)) (now (lines .entry))) ⌝ }
+{
+    if (image.len() < 22560) | (lines.len() < 120) {
+        return Placed::Refused(answer::IMAGE_SHORT);
+    }
+    if arrival == 0 {
+        return Placed::Refused(answer::NO_ARRIVAL);
+    }
+    match Report::read(packet) {
+        ReportRead::Report(report) => {
+            let content = report.content;
+            bring(content, packet, arrival, wanted, image, lines)
+        }
+        ReportRead::Refused(n) => Placed::Refused(n),
+    }
 }

@@ -1,6 +1,6 @@
 -- Document 01, 'Image and sequence': the sequence gap over a list of one number an APID, 0 for none yet, else last count + 1.
 use Prim.Native.Nat.{ℕ, _+_, _-_}
-use mathlib.Core.Bool.{Bool, _||_}
+use mathlib.Core.Bool.{_||_}
 use mathlib.Core.List.{List}
 use lib.ListN.{length, set}
 use lib.Dec.{ltb, eqb}

@@ -1,4 +1,4 @@
-use native.Mathlib.Omega.{arith}
+-- `image::held_otherwise` meets its contract.
 use Rattle.image.specs.Line.{heldOtherwise}
 use borrow.Author.Tests.{eq-eqb, ne-eqb}
 use borrow.Author.Needs.{needs}

@@ -1,3 +1,4 @@
+-- `image::lay` meets its contract.
 use native.Mathlib.Omega.{arith}
 use Prim.Native.Nat.{_*_}
 use mathlib.Core.Path.{refl, sym, _∙_}

@@ -1,7 +1,6 @@
 -- `sequence::missing` meets its contract.
 use native.Mathlib.Omega.{arith}
-use Prim.Native.Nat.{_≤_, _<_}
-use lib.ListN.{length}
+use Prim.Native.Nat.{_≤_}
 use mathlib.Core.Path.{refl}
 use borrow.Author.Needs.{needs}
 use borrow.Author.Tests.{lt-ltb, le-ltb}

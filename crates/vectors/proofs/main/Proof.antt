@@ -1,4 +1,4 @@
-use native.Mathlib.Omega.{arith}
+-- `main` ends: the measure is the number of turns that are left.
 use borrow.Author.Needs.{needs}
 use Rattle.vectors.proofs.main.Statement.{statement}
 use Rattle.vectors.proofs.main.Tie as tie

@@ -1,5 +1,5 @@
+-- `input::room` meets its contract.
 use Rattle.vectors.proofs.Rooms.{counts}
-use native.Mathlib.Omega.{arith}
 use borrow.Author.Needs.{needs}
 use Rattle.vectors.proofs.input.room.Statement.{statement}
 use Rattle.vectors.proofs.input.room.Tie as tie

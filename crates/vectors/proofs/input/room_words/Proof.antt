@@ -1,5 +1,5 @@
+-- `input::room_words` meets its contract.
 use Rattle.vectors.proofs.Rooms.{counts}
-use native.Mathlib.Omega.{arith}
 use borrow.Author.Needs.{needs}
 use Rattle.vectors.proofs.input.room_words.Statement.{statement}
 use Rattle.vectors.proofs.input.room_words.Tie as tie

@@ -1,6 +1,6 @@
+-- `text::octets` is safe and ends.
 use Prim.Native.Nat.{_≤_, _-_}
 use lib.ListN.{length}
-use native.Mathlib.Omega.{arith}
 use borrow.Author.Needs.{needs}
 use Rattle.vectors.proofs.text.octets.Statement.{statement}
 use Rattle.vectors.proofs.text.octets.Tie as tie
