@@ -80,6 +80,15 @@ wrong-held b n l = go (order 6 n)
     go (upTo h t) = rw (size-held n l h)
     go (past h t) = rw t
 
+-- nothing held is never wrong
+none : (b : Bool) (l : List ℕ) → heldWrong b 0 l ≡ false
+unfolding heldWrong
+none true l = refl
+none false l = refl
+
+pub none-wrong : (b : Bool) (n : ℕ) (l : List ℕ) → n ≡ 0 → heldWrong b n l ≡ false
+none-wrong b n l e = ap (λ (k : ℕ). heldWrong b k l) e ∙ none b l
+
 -- above 250 comes first
 wrong-most : (b : Bool) (n : ℕ) (l : List ℕ) → heldWrong b n l ≡ false → n ≤ 250
 unfolding heldWrong

@@ -5,10 +5,10 @@ use mathlib.Core.List.{List, [], _++_, map}
 use mathlib.Core.Bool.{true, false}
 use lib.ListN.{length, take, drop}
 use Rattle.octets.specs.Parts.{written}
-use Rattle.rules.specs.Channel.{Work}
+use Rattle.rules.specs.Channel.{Answer}
 use Rattle.rules.specs.Packets.{bare, joined}
 use Rattle.rules.specs.Cutting.{cutOf}
-use Rattle.session.specs.Channel.{channelOf, stored}
+use Rattle.session.specs.Channel.{stored}
 use Rattle.session.specs.declared.cutting.Found.{Found}
 use Rattle.session.specs.declared.channels.Followed.{Followed}
 
@@ -24,9 +24,10 @@ pub record Cuts (held xs : List ℕ) (r : Found) (list list′ : List ℕ) : Typ
   pub past : r .octets < length held → r .octets ≡ 0
   pub lengths : list′ ≡ written (map length (cutOf (held ++ xs) .packets)) list
 
--- A channel after what the rules made of a frame with this count, and what is handed out.
-pub record Works (w : Work) (count : ℕ) (r : Followed) (out list out′ list′ : List ℕ) : Type 0 where
-  pub channel : r .channel ≡ stored (channelOf count (w .inStep) (w .held))
-  pub packets : r .packets ≡ length (w .packets)
-  pub octets : out′ ≡ written (joined (bare (w .packets))) out
-  pub lengths : list′ ≡ written (map length (bare (w .packets))) list
+-- A channel after a frame, and what is handed out, by what the rules answer.
+pub record Follows (a : Answer) (r : Followed) (out list out′ list′ : List ℕ) : Type 0 where
+  pub channel : r .channel ≡ stored (a .next)
+  pub lost : r .lost ≡ a .lost
+  pub packets : r .packets ≡ length (a .packets)
+  pub octets : out′ ≡ written (joined (bare (a .packets))) out
+  pub lengths : list′ ≡ written (map length (bare (a .packets))) list
