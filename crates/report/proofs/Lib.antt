@@ -3,3 +3,4 @@ pub mod Known
 pub mod Read
 pub mod Told
 pub mod Accepted
+pub mod Write

@@ -1,10 +1,13 @@
 -- Document 01, 'Reports': what writing one gives, for all five in one definition.
 use Prim.Native.Nat.{ℕ}
+use mathlib.Core.Path.{_≡_}
 use mathlib.Core.List.{List, [], _∷_, _++_}
 use mathlib.Core.Bool.{Bool, true, false, not, _||_}
 use lib.ListN.{length}
 use lib.Dec.{ltb, eqb}
 use Rattle.octets.specs.Numbers.{wordOf, fourOf}
+use Rattle.answer.specs.Writer.{Wrote}
+use Rattle.answer.specs.declared.Written.{Written}
 use Rattle.packet.specs.Write.{fieldsWrong, packetOctets}
 use Rattle.packet.specs.declared.Packet.{Packet}
 use Rattle.report.specs.Table.{success, failure, housekeeping, available, imageLine}
@@ -63,6 +66,10 @@ lengthsWrong [] (x ∷ xs) = true
 lengthsWrong (n ∷ ns) [] = true
 lengthsWrong (n ∷ ns) (x ∷ xs) = not (eqb (length x) n) || lengthsWrong ns xs
 
+-- Source data as it should be, where the lent strings are as long as they should be.
+abbrev pub Laid : Content → List (List ℕ) → List ℕ → Type 0
+Laid c strings source = lengthsWrong (lengthsOf c) strings ≡ false → source ≡ sourceData c strings
+
 -- The line is above 119.
 abbrev pub lineWrong : Content → Bool
 lineWrong (Success c) = false
@@ -79,3 +86,9 @@ abbrev pub reportWrong : Report → List (List ℕ) → Bool
 reportWrong r strings =
     contentWrong (r .packet) (r .content) strings
     || fieldsWrong (r .packet) (length (sourceData (r .content) strings))
+
+-- The contract of every report's writer: the packet's fields, the content and the lent strings, the output before and after.
+abbrev pub WroteReport : Packet → Content → List (List ℕ) → List ℕ → Written → List ℕ → Type 0
+WroteReport p c strings out r out′ =
+    let report : Report = record { packet = p; content = c } in
+    Wrote (reportWrong report strings) (reportOctets report strings) out r out′

@@ -157,7 +157,7 @@ fn length_wrong(p: Packet, pair: Pair) -> bool
 }
 
 // Refusal 32: the line is above 119.
-fn line_wrong(p: Packet, s: &[u8]) -> bool
+fn line_above(p: Packet, s: &[u8]) -> bool
     ensures { λ r. ⌜ r ≡ lineAbove p (now (s .entry)) ⌝ }
 {
     table::image_line(p) & (Line::LAST < octet(s, 16))
@@ -173,7 +173,7 @@ fn read_content(p: Packet, s: &[u8]) -> ReportRead
     if length_wrong(p, pair) {
         return ReportRead::Refused(answer::SOURCE_LENGTH);
     }
-    if line_wrong(p, s) {
+    if line_above(p, s) {
         return ReportRead::Refused(answer::LINE);
     }
     let content = content_of(p, s);

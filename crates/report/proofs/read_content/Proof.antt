@@ -16,7 +16,7 @@ returns-3 : tie.Need-returns-3
 returns-3 c =
     let m = c .before .before .before .before .before in
     line-refused _ _ (m .before .before .find .ensures) (m .pair .given .1) (c .before .before .before .length-wrong .ensures)
-    (c .before .before .if1 .left) (c .before .line-wrong .ensures) (c .if2 .taken)
+    (c .before .before .if1 .left) (c .before .line-above .ensures) (c .if2 .taken)
 
 content-of-requires : tie.Need-content-of-requires
 content-of-requires c κs =
@@ -29,7 +29,7 @@ returns-4 : tie.Need-returns-4
 returns-4 c =
     let m = c .before .before .before .before .before .before in
     report-read _ _ (m .before .before .find .ensures) (m .pair .given .1) (c .before .before .before .before .length-wrong .ensures)
-    (c .before .before .before .if1 .left) (c .before .before .line-wrong .ensures) (c .before .if2 .left) (c .content-of .ensures)
+    (c .before .before .before .if1 .left) (c .before .before .line-above .ensures) (c .before .if2 .left) (c .content-of .ensures)
 
 pub read-content-spec : {M : Type 1} → statement M
 read-content-spec =
