@@ -6,19 +6,17 @@ use mathlib.Core.Bool.{Bool, true, false, _&&_}
 use mathlib.Core.Option.{none}
 use mathlib.Core.List.{List, [], _++_, append-nil}
 use lib.ListN.{length, take, drop, length-drop}
-use lib.Dec.{eqb}
 use borrow.Author.Tests.{eq-eqb, ne-eqb}
 use Rattle.frame.specs.declared.Frame.{Frame}
 use Rattle.rules.specs.Channel.{Held, nothing, Work, outOfStep, holding, feed, fits, enter, follow, afterLoss, answer, lostSince, step}
 use Rattle.rules.specs.Packets.{bare}
-use Rattle.rules.specs.Bounds.{Sound}
 use Rattle.rules.specs.Cutting.{Cut, cutOf}
 use Rattle.rules.proofs.Status.{empty-unfinished}
 use Rattle.rules.proofs.Bounds.{sound-status, sound-held, step-bounded}
 use Rattle.rules.proofs.Cutting.{cuts-on}
 use Rattle.session.specs.Channel.{heldOf, view, channelOf, stored}
 use Rattle.session.specs.Step.{pieceOf}
-use Rattle.session.specs.Asked.{Begun, Taken, Heard, Followable}
+use Rattle.session.specs.Asked.{Begun, Taken, Followable}
 use Rattle.session.specs.Kept.{Follows}
 use Rattle.session.specs.declared.Channel.{Channel}
 use Rattle.session.specs.declared.channels.Followed.{Followed}

@@ -18,7 +18,6 @@ use Rattle.rules.proofs.Status.{Order, upTo, past, order, status-short, status-
 use Rattle.rules.proofs.Cutting.{Whole, whole-size, cuts-unfinished, cuts-wrong, cuts-whole}
 use Rattle.session.specs.Asked.{Counted}
 use Rattle.session.specs.Kept.{Cuts}
-use Rattle.session.specs.declared.cutting.Found.{Found}
 use Rattle.session.proofs.Fitting.{Within, outside, status-outside, less-than-said}
 
 -- Packets are being cut out of held and xs: `done` are cut, with `at` octets, and their lengths are written.

@@ -1,16 +1,16 @@
 -- What a step gives, from what its parts gave.
-use Prim.Native.Nat.{ℕ, _+_, _≤_, _<_}
+use Prim.Native.Nat.{ℕ, _≤_}
 use native.Mathlib.Omega.{arith}
 use mathlib.Core.Path.{_≡_, refl, sym, ap, _∙_, subst}
 use mathlib.Core.Bool.{Bool, true, false, _||_}
 use mathlib.Core.Logic.{⊎-elim}
 use mathlib.Core.List.{List}
 use lib.ListN.{length, set}
-use lib.Dec.{ltb, eqb}
+use lib.Dec.{ltb}
 use borrow.Author.Tests.{eq-eqb, ne-eqb, ltb-false}
 use Rattle.octets.specs.Pick.{pick}
 use Rattle.octets.proofs.Tests.{or-left, or-right}
-use Rattle.answer.specs.Told.{Told, accept, refuse}
+use Rattle.answer.specs.Told.{accept, refuse}
 use Rattle.answer.specs.Refusals as no
 use Rattle.frame.specs.Frame.{noFrame, readFrame, dataOf}
 use Rattle.frame.specs.Statements.{PointerRight, Accepted}
@@ -18,7 +18,7 @@ use Rattle.frame.specs.declared.Frame.{Frame}
 use Rattle.rules.specs.Channel.{lostSince, step}
 use Rattle.session.specs.Channel.{lastOf, view, channelUnsound, unsound}
 use Rattle.session.specs.Step.{Outcome, told, refused, counted, channelAt, pieceOf, ruled, accepted, heeded, outcome, Gives}
-use Rattle.session.specs.Asked.{Points, Heard, Asked}
+use Rattle.session.specs.Asked.{Points, Asked}
 use Rattle.session.specs.Kept.{Follows}
 use Rattle.session.specs.declared.Channel.{Channel}
 use Rattle.session.specs.declared.Session.{Session}

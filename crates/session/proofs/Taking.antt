@@ -11,7 +11,7 @@ use Rattle.rules.specs.Packets.{bare, joined}
 use Rattle.rules.specs.Cutting.{Cut, cutBy, cutOf}
 use Rattle.rules.proofs.Cutting.{cuts-on}
 use Rattle.session.specs.Channel.{heldOf, channelOf, stored}
-use Rattle.session.specs.Asked.{Begun, Taken, Counted, Front, Left}
+use Rattle.session.specs.Asked.{Taken, Counted, Front, Left}
 use Rattle.session.specs.Kept.{Cuts, Follows}
 use Rattle.session.specs.declared.Channel.{Channel}
 use Rattle.session.specs.declared.cutting.Found.{Found}

@@ -6,8 +6,9 @@ use Prim.Native.Nat.{ℕ, _≤_}
 use lib.ListN.{length, take}
 use lib.Seq.{length-take-le}
 use Rattle.rules.specs.Bounds.{Sound}
+use Rattle.rules.proofs.Bounds.{passing-sound}
 use Rattle.session.proofs.Following.{steps-lost, steps-on}
-use Rattle.session.proofs.Soundness.{held-most, held-sound}
+use Rattle.session.proofs.Soundness.{held-most}
 use Rattle.session.proofs.Channel.heed.Statement.{statement}
 use Rattle.session.proofs.Channel.heed.Tie as tie
 
@@ -21,21 +22,18 @@ returns c n =
     (a .lengths .now) (c .before .before .before .before .follow .last .1 .1 .1 .1 .1 .0) (c .before .before .before .before .follow .last .1 .1 .1 .1 .1 .1 .0) (c .before .before .before .before .before .before .before .before .if1 .taken) (c .before .before .before .before .follow .ensures n)
 
 -- the held octets lie in the array
-long : (c : tie.After-wide) → length (c .before .before .before .before .before .before .before .before .args .self .held) ≡ 250
-long c = search needs
-
 fits-in : (c : tie.After-wide) → c .wide .result ≤ length (c .before .before .before .before .before .before .before .before .args .self .held)
 fits-in c =
-    let m = held-most (c .before .before .before .before .before .before .before .before .args .self) (c .before .before .before .before .before .before .before .before .pre .sound) in
-    let l = long c in
-    let e = c .wide .ensures in
-    omega arith
+    let a = c .before .before .before .before .before .before .before .before .args .self in
+    let l : length (a .held) ≡ 250 = search needs in
+    omega (arith, held-most (a .instep) (a .length) (a .held) (c .before .before .before .before .before .before .before .before .pre .sound), l, c .wide .ensures)
 
 follow-requires-2 : tie.Need-follow-requires-2
 follow-requires-2 c κs =
-    let a = c .before .before .before .before .before .before .before .before .before .before .before .args in
+    let a = c .before .before .before .before .before .before .before .before .before .before .before .args .self in
     record {
-      sound = subst (λ (k : ℕ). Sound (a .self .instep) (take k (a .self .held))) (sym (c .before .before .before .wide .ensures)) (held-sound (a .self) (long (c .before .before .before)) (c .before .before .before .before .before .before .before .before .before .before .before .pre .sound));
+      sound = subst (λ (k : ℕ). Sound (a .instep) (take k (a .held))) (sym (c .before .before .before .wide .ensures))
+          (passing-sound (a .instep) (a .length) (a .held) (c .before .before .before .before .before .before .before .before .before .before .before .pre .sound));
       heard = c .before .before .before .before .before .before .before .before .before .before .before .pre .heard;
     }
 

@@ -1,9 +1,6 @@
 -- `Channel::unsound` meets its contract: the same tests, after the one that a channel most often passes.
 use borrow.Author.Needs.{needs}
-use mathlib.Core.Path.{_≡_, sym, _∙_}
-use mathlib.Core.Bool.{Bool, true, false}
-use mathlib.Core.List.{List}
-use Prim.Native.Nat.{ℕ}
+use mathlib.Core.Path.{sym, _∙_}
 use Rattle.rules.specs.Bounds.{heldWrong}
 use Rattle.session.proofs.Soundness.{none-wrong}
 use Rattle.session.proofs.Channel.unsound.Statement.{statement}

@@ -5,7 +5,6 @@ use Prim.Native.Nat.{_+_, _≤_}
 use mathlib.Core.Path.{_≡_, sym, ap, _∙_}
 use mathlib.Core.Bool.{Bool, true, false, _&&_}
 use lib.ListN.{length}
-use Rattle.rules.specs.Channel.{fits}
 use Rattle.session.proofs.Following.{follows-raw, follows-skipped, follows-on, follows-entered, to-fit, to-take, to-take-rest, place}
 use Rattle.session.proofs.channels.follow.Statement.{statement}
 use Rattle.session.proofs.channels.follow.Tie as tie
