@@ -51,3 +51,11 @@ pub(crate) fn room_words(c: &[u8], i: u8, list: &[u16]) -> usize
     let n = size(c, i);
     if n < list.len() { n } else { list.len() }
 }
+
+// The same of a lent list of 32-bit numbers.
+pub(crate) fn room_fours(c: &[u8], i: u8, list: &[u32]) -> usize
+    ensures { λ r. ⌜ Counts r (now (list .entry)) ⌝ }
+{
+    let n = size(c, i);
+    if n < list.len() { n } else { list.len() }
+}

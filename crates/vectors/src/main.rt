@@ -3,7 +3,10 @@ mod checks;
 mod frames;
 mod input;
 mod packets;
+mod placings;
+mod reports;
 mod sequences;
+mod sessions;
 mod text;
 
 use libc::STDIN_FILENO;
@@ -20,6 +23,11 @@ fn run(c: &[u8]) {
         5 => packets::write(c),
         6 => frames::read(c),
         7 => frames::write(c),
+        8 => placings::place(c),
+        9 => reports::read(c),
+        10 => reports::write(c),
+        11 => sessions::open(c),
+        12 => sessions::steps(c),
         _ => text::say(b"no such kind"),
     }
     text::say(b"\n");

@@ -28,7 +28,7 @@ fn run(c: &[u8], list: &mut [u16]) {
     let gap = sequence::missing(apid, SequenceCount(input::word(c, 5)), list);
     let after = entry_at(list, place);
     enter(list, place, 0);
-    let other = text::any_other_word(list, 0);
+    let other = text::any_other_word(list, 0, 0);
     match gap {
         Gap::Missing(n) => {
             text::field(b"accepted missing ", n as u64);

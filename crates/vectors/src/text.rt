@@ -50,8 +50,20 @@ pub(crate) fn any_other(s: &[u8], x: u8) -> bool {
     false
 }
 
+// Whether any number of s from an index on is not x.
+pub(crate) fn any_other_word(s: &[u16], from: usize, x: u16) -> bool {
+    let mut i = from;
+    while i < s.len() {
+        if s[i] != x {
+            return true;
+        }
+        i += 1;
+    }
+    false
+}
+
 // Whether any number of s is not x.
-pub(crate) fn any_other_word(s: &[u16], x: u16) -> bool {
+pub(crate) fn any_other_four(s: &[u32], x: u32) -> bool {
     let mut i = 0;
     while i < s.len() {
         if s[i] != x {
