@@ -4,15 +4,15 @@ use native.Mathlib.Nat.{add-zero}
 use native.Mathlib.Omega.{arith}
 use mathlib.Core.Path.{_≡_, refl, sym, ap, _∙_}
 use mathlib.Core.List.{List, [], _∷_, _++_}
-use mathlib.Core.Bool.{Bool, true, false, not, _&&_, _||_, true≢false}
+use mathlib.Core.Bool.{Bool, true, false, not, _||_, true≢false}
 use mathlib.Core.Logic.{⊎-elim}
 use borrow.Author.Tests.{eq-eqb, ne-eqb, eqb-true, not-false, ltb-false}
 use lib.ListN.{length, drop, drop-of-length-le}
 use lib.Seq.{drop-cons}
-use lib.Dec.{ltb, eqb}
+use lib.Dec.{eqb}
 use Rattle.octets.specs.Numbers.{at}
 use Rattle.octets.specs.Pick.{pick}
-use Rattle.octets.proofs.Tests.{facts, or-left, or-right, and-false}
+use Rattle.octets.proofs.Tests.{or-left, or-right, and-false}
 use Rattle.frame.specs.Address.{sign, space, strange, breaks, callsignWrong, odd, blank, startWrong, nextWrong, ssidWrong, firstWrong, addressWrong, callsignOf, addressOf, addressOctets}
 use Rattle.frame.specs.declared.Callsign.{Callsign}
 use Rattle.frame.specs.declared.Address.{Address}

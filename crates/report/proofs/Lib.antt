@@ -4,3 +4,6 @@ pub mod Read
 pub mod Told
 pub mod Accepted
 pub mod Write
+pub mod Strings
+pub mod Back
+pub mod Unique

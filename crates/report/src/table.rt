@@ -78,9 +78,10 @@ const PAIRS: [Pair; 9] = [
 pub fn find(service: u8, subtype: u8) -> Found
     ensures { λ r. ⌜ r ≡ findPair service subtype ⌝ }
 {
+    let pairs = PAIRS;
     let mut i: usize = 0;
     while i < 9 {
-        let p = PAIRS[i];
+        let p = pairs[i];
         if (p.service == service) & (p.subtype == subtype) {
             return Found::Pair(p);
         }

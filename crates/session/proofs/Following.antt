@@ -1,5 +1,5 @@
 -- Rules 1 to 4 by the tests that the code makes.
-use Prim.Native.Nat.{ℕ, zero, suc, _+_, _-_, _≤_, _<_}
+use Prim.Native.Nat.{ℕ, zero, suc, _-_, _≤_, _<_}
 use native.Mathlib.Omega.{arith}
 use mathlib.Core.Path.{_≡_, refl, sym, ap, _∙_, subst}
 use mathlib.Core.Bool.{Bool, true, false, _&&_}
@@ -17,7 +17,7 @@ use Rattle.rules.proofs.Cutting.{cuts-on}
 use Rattle.session.specs.Channel.{heldOf, view, channelOf, stored}
 use Rattle.session.specs.Step.{pieceOf}
 use Rattle.session.specs.Asked.{Begun, Taken, Followable}
-use Rattle.session.specs.Kept.{Follows}
+use Rattle.session.specs.Promised.{Follows}
 use Rattle.session.specs.declared.Channel.{Channel}
 use Rattle.session.specs.declared.channels.Followed.{Followed}
 use Rattle.session.proofs.Keeping.{to-end}

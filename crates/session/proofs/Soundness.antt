@@ -2,6 +2,7 @@
 use Prim.Native.Nat.{ℕ, zero, suc, _+_, _≤_, _<_}
 use native.Mathlib.Nat.{le-of-suc-le-suc, not-suc-le-zero}
 use native.Mathlib.Numerals.{add-one}
+use native.Mathlib.Omega.{arith}
 use mathlib.Core.Path.{_≡_, refl, sym, ap, _∙_}
 use mathlib.Core.Bool.{Bool, true, false, not, _&&_, _||_}
 use mathlib.Core.List.{List, [], _∷_, map}
@@ -9,6 +10,7 @@ use lib.ListN.{length, drop, getD, drop-of-length-le}
 use lib.Seq.{drop-cons}
 use lib.Dec.{ltb, leb}
 use borrow.Author.Tests.{lt-ltb, le-ltb, ltb-false}
+use Rattle.octets.specs.Numbers.{at, word}
 use Rattle.octets.proofs.Tests.{or-left, or-right}
 use Rattle.rules.specs.Channel.{allowed, lengthIn}
 use Rattle.rules.specs.Bounds.{heldWrong}
@@ -73,6 +75,13 @@ none false l = refl
 
 pub none-wrong : (b : Bool) (n : ℕ) (l : List ℕ) → n ≡ 0 → heldWrong b n l ≡ false
 none-wrong b n l e = ap (λ (k : ℕ). heldWrong b k l) e ∙ none b l
+
+-- with something held, by the code's tests
+pub some-wrong : (b : Bool) (n : ℕ) (l : List ℕ) (m w : ℕ) → m ≡ n → (m ≡ 0 → ⊥) → w ≡ word (at l 4) (at l 5)
+    → ((ltb 250 m || not b) || (leb 6 m && (not (allowed (w + 7)) || leb (w + 7) m))) ≡ heldWrong b n l
+unfolding heldWrong
+some-wrong true n l m w e z h = rw (e, h)
+some-wrong false n l m w e z h = let p : ltb 0 n ≡ true = lt-ltb 0 n (omega (arith, e, z)) in rw (e, h, p)
 
 -- above 250 comes first
 pub held-most : (b : Bool) (n : ℕ) (l : List ℕ) → heldWrong b n l ≡ false → n ≤ 250

@@ -19,7 +19,7 @@ use Rattle.rules.specs.Channel.{lostSince, step}
 use Rattle.session.specs.Channel.{lastOf, view, channelUnsound, unsound}
 use Rattle.session.specs.Step.{Outcome, told, refused, counted, channelAt, pieceOf, ruled, accepted, heeded, outcome, Gives}
 use Rattle.session.specs.Asked.{Points, Asked}
-use Rattle.session.specs.Kept.{Follows}
+use Rattle.session.specs.Promised.{Follows}
 use Rattle.session.specs.declared.Channel.{Channel}
 use Rattle.session.specs.declared.Session.{Session}
 use Rattle.session.specs.declared.Stepped.{Stepped}

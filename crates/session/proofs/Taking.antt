@@ -1,5 +1,5 @@
 -- Rule 5 as `cutOf` has it, and as `feed` has it.
-use Prim.Native.Nat.{ℕ, _+_, _≤_}
+use Prim.Native.Nat.{ℕ, _≤_}
 use native.Mathlib.Omega.{arith}
 use mathlib.Core.Path.{_≡_, refl, sym, ap, _∙_}
 use mathlib.Core.Bool.{Bool, true, false}
@@ -12,7 +12,7 @@ use Rattle.rules.specs.Cutting.{Cut, cutBy, cutOf}
 use Rattle.rules.proofs.Cutting.{cuts-on}
 use Rattle.session.specs.Channel.{heldOf, channelOf, stored}
 use Rattle.session.specs.Asked.{Taken, Counted, Front, Left}
-use Rattle.session.specs.Kept.{Cuts, Follows}
+use Rattle.session.specs.Promised.{Cuts, Follows}
 use Rattle.session.specs.declared.Channel.{Channel}
 use Rattle.session.specs.declared.cutting.Found.{Found}
 

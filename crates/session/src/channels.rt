@@ -8,7 +8,7 @@ ghost use Rattle.rules.specs.Channel.{nothing, feed, holding, follow, answer, l
 ghost use Rattle.session.specs.Channel.{heldOf, view, channelOf, stored, fresh, channelUnsound};
 ghost use Rattle.session.specs.Step.{pieceOf};
 ghost use Rattle.session.specs.Asked.{Asked, Followable, Left, Taken};
-ghost use Rattle.session.specs.Kept.{Follows};
+ghost use Rattle.session.specs.Promised.{Follows};
 use super::Channel;
 use super::cutting;
 use counts::ChannelCount;
@@ -46,9 +46,7 @@ impl Channel {
             return false;
         }
         let whole = octets::word(self.held[4], self.held[5]) as usize + 7;
-        (250 < n)
-            | (!self.instep & (0 < n))
-            | ((6 <= n) & (!((16 <= whole) & (whole <= 251)) | (whole <= n)))
+        (250 < n) | !self.instep | ((6 <= n) & (!((16 <= whole) & (whole <= 251)) | (whole <= n)))
     }
 
     // How many of the channel's frames were lost before the one with this count.

@@ -134,8 +134,8 @@ impl Session {
         }
     }
 
-    // The session after a frame is offered, with the packets that the frame completes end to end at the start of octets, and their
-    // lengths at the start of lengths; else the first of 1, 4, 3 and the frame's 10 to 15, which alone use up an arrival number.
+    // The session after a frame is offered; the packets that it completes are end to end at the start of octets, their lengths at the
+    // start of lengths. Else the first refusal of 1, 4, 3 and the frame's 10 to 15, of which 10 to 15 use up an arrival number.
     // What is lent stays beyond that.
     pub fn step(self, frame: &[u8], octets: &mut [u8], lengths: &mut [u16]) -> Stepped
         ensures { λ r. ⌜ Steps self (now (frame .entry)) (now (octets .entry)) (now (lengths .entry)) r (now (octets .exit)) (now (lengths .exit)) ⌝ }

@@ -10,10 +10,10 @@ use Rattle.report.proofs.table.find.Statement.{statement}
 use Rattle.report.proofs.table.find.Tie as tie
 
 abbrev Inv-loop : tie.InvT-loop
-Inv-loop service subtype i₀ i = (i ≤ 9) × (findPair service subtype ≡ first service subtype (drop i pairs))
+Inv-loop service subtype table i₀ i = (i ≤ 9) × (findPair service subtype ≡ first service subtype (drop i pairs))
 
 abbrev μ-loop : tie.MeasureT-loop
-μ-loop service subtype i₀ i = 9 - i
+μ-loop service subtype table i₀ i = 9 - i
 
 loop-holds : tie.Need-loop-holds Inv-loop μ-loop
 unfolding findPair
