@@ -101,19 +101,19 @@ static void make_tables(void)
     }
 }
 
-static u32 packet_check(const u8 *p, size_t n)
+static u16 packet_check(const u8 *p, size_t n)
 {
-    u32 s = 0xFFFF;
-    for (const u8 *e = p + n; p < e; p++)
-        s = (s << 8 & 0xFFFF) ^ high_first[s >> 8 ^ *p];
+    u16 s = 0xFFFF;
+    for (size_t i = 0; i < n; i++)
+        s = (u16)(s << 8 ^ high_first[s >> 8 ^ p[i]]);
     return s;
 }
 
-static u32 frame_check(const u8 *p, size_t n)
+static u16 frame_check(const u8 *p, size_t n)
 {
-    u32 s = 0xFFFF;
-    for (const u8 *e = p + n; p < e; p++)
-        s = s >> 8 ^ low_first[(s ^ *p) & 0xFF];
+    u16 s = 0xFFFF;
+    for (size_t i = 0; i < n; i++)
+        s = (u16)(s >> 8 ^ low_first[(s ^ p[i]) & 0xFF]);
     return s ^ 0xFFFF;
 }
 

@@ -7,7 +7,7 @@ use native.Mathlib.Omega.{arith}
 use native.Mathlib.Nat.{zero-add}
 use lib.ListN.{length, take, drop, replicate}
 use lib.Seq.{drop-drop}
-use lib.Dec.{ltb, leb, leb·zero, leb·suc-zero, leb·suc-suc}
+use lib.Dec.{ltb, leb·zero, leb·suc-zero, leb·suc-suc}
 use Rattle.rules.specs.Channel.{Piece, pointerTo}
 use Rattle.rules.specs.Packets.{AllGood, joined}
 use Rattle.delivery.specs.Stream.{heads, firstFrom, Choice, raw, next, nextCount, written}

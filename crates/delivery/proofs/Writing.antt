@@ -7,7 +7,6 @@ use lib.Seq.{take-append-seam}
 use Rattle.octets.specs.Parts.{written}
 use Rattle.answer.specs.declared.Written.{Written}
 use Rattle.answer.specs.declared.Written.the-variants.{Length}
-use Rattle.answer.specs.Writer.{Wrote}
 use Rattle.answer.proofs.Writer.{wrote, one-written}
 use Rattle.frame.specs.Writer.{fieldsWrong}
 use Rattle.delivery.specs.Sender.{octetsOf, WriterGives}

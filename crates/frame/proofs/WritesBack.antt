@@ -10,6 +10,7 @@ use lib.ListN.{length, take, drop, length-drop}
 use lib.Seq.{take-add, take-suc, length-take-le}
 use Rattle.octets.specs.Numbers.{at}
 use Rattle.octets.proofs.Placing.{part-some}
+use Rattle.octets.proofs.Runs.{run, run-is, length-part}
 use Rattle.crc.specs.Check.{ones}
 use Rattle.crc.specs.Check.Order.{lowFirst}
 use Rattle.crc.proofs.Ends.{accepted}
@@ -18,8 +19,8 @@ use Rattle.frame.specs.Frame.{flagOf, dataLength, statusOf, frameOf, dat
 use Rattle.frame.specs.Statements.{WrittenBack, WritesBack}
 use Rattle.frame.specs.Writer.{fieldsWrong, headOf, front, statusOctet, body, sealed, frameOctets}
 use Rattle.frame.specs.declared.Frame.{Frame}
-use Rattle.frame.proofs.Accepts.{Passed, passed, length-part}
-use Rattle.frame.proofs.AddressTrip.{octets-of, callsign-right, run, run-is}
+use Rattle.frame.proofs.Accepts.{Passed, passed}
+use Rattle.frame.proofs.AddressTrip.{octets-of, callsign-right}
 
 module _ (t : ℕ) (s : List ℕ) (k : Passed t s) where
   f : Frame

@@ -13,10 +13,13 @@ use Rattle.packet.specs.Packet.{told}
 use Rattle.packet.specs.declared.Packet.{Packet}
 use Rattle.packet.specs.declared.PacketRead.{PacketRead}
 use Rattle.packet.specs.declared.PacketRead.the-variants as variants
+use Rattle.session.specs.Step.{told as toldStep}
+use Rattle.session.specs.declared.StepAnswer.{StepAnswer}
+use Rattle.session.specs.declared.StepAnswer.the-variants as steps
 use Rattle.answer.specs.Writer.{Wrote}
 use Rattle.answer.specs.declared.Written.the-variants.{Length}
 use Rattle.answer.proofs.Writer.{wrote}
-use Rattle.recording.specs.Text.{Laid, Lined, packetLine, turnedAwayLine, packetText}
+use Rattle.recording.specs.Text.{Laid, Lined, acceptedLine, refusedLine, packetLine, turnedAwayLine, packetText, answerText}
 
 -- text stands at the start of out, and r is its length, at most `most`
 pub record Begun (text out out′ : List ℕ) (r most : ℕ) : Type 0 where
@@ -66,3 +69,13 @@ module _ (arrival size : ℕ) {r : ℕ} {out out′ : List ℕ} {read : PacketRe
       → Lined (packetText arrival size (told read)) out out′ r
   unfolding pick
   turned-away-line e l = rw e l
+
+module _ (arrival : ℕ) {r : ℕ} {out out′ : List ℕ} {answer : StepAnswer} where
+  pub accepted-line : {a channel lost master packets : ℕ} → answer ≡ steps.Accepted a channel lost master packets
+      → Lined (acceptedLine arrival channel lost master packets) out out′ r → Lined (answerText arrival (toldStep answer)) out out′ r
+  unfolding pick
+  accepted-line e l = rw e l
+
+  pub refused-line : {n : ℕ} → answer ≡ steps.Refused n → Lined (refusedLine arrival n) out out′ r → Lined (answerText arrival (toldStep answer)) out out′ r
+  unfolding pick
+  refused-line e l = rw e l

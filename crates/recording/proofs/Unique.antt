@@ -21,6 +21,8 @@ use Rattle.recording.proofs.header_line.Kinds as kheader
 use Rattle.recording.proofs.header_line.Reads as rheader
 use Rattle.recording.proofs.bad_line.Kinds as kbad
 use Rattle.recording.proofs.bad_line.Reads as rbad
+use Rattle.recording.proofs.answer_line.Kinds as kanswer
+use Rattle.recording.proofs.answer_line.Reads as ranswer
 use Rattle.recording.proofs.packet_line.Kinds as kpacket
 use Rattle.recording.proofs.packet_line.Reads as rpacket
 
@@ -51,6 +53,9 @@ header-line-fixed κs a x y s t p q = one-written p q
 
 pub bad-line-fixed : Fixes kbad.ps kbad.r {A = Written × List ℕ} rbad.Post (λ κs x s. (x, now (s .0)))
 bad-line-fixed κs a x y s t p q = one-written p q
+
+pub answer-line-fixed : Fixes kanswer.ps kanswer.r {A = Written × List ℕ} ranswer.Post (λ κs x s. (x, now (s .0)))
+answer-line-fixed κs a x y s t p q = one-written p q
 
 pub packet-line-fixed : Fixes kpacket.ps kpacket.r {A = Written × List ℕ} rpacket.Post (λ κs x s. (x, now (s .0)))
 packet-line-fixed κs a x y s t p q = one-written p q

@@ -8,6 +8,7 @@ use Rattle.octets.specs.Parts.{overlay, written}
 use Rattle.octets.specs.Pick.{pick}
 use Rattle.answer.specs.Told.{Told}
 use Rattle.packet.specs.declared.Packet.{Packet}
+use Rattle.session.specs.Step.{Accepted}
 
 -- The decimal digits of a number below ten to the power k.
 abbrev pub decimalBelow : ℕ → ℕ → List ℕ
@@ -53,6 +54,12 @@ packetLine arrival apid sequence service subtype size =
 -- Q, arrival, refusal, length.
 unfoldable pub turnedAwayLine : ℕ → ℕ → ℕ → List ℕ
 turnedAwayLine arrival refusal size = line (81 ∷ []) (decimal arrival ∷ decimal refusal ∷ decimal size ∷ [])
+
+-- A frame's line: what the session told of it.
+abbrev pub answerText : ℕ → Told Accepted → List ℕ
+answerText arrival t =
+    pick (t .accepted) (acceptedLine arrival (t .fields .channel) (t .fields .lost) (t .fields .master) (t .fields .packets))
+    (refusedLine arrival (t .refusal))
 
 -- A packet's line: what the packet reader told of it.
 abbrev pub packetText : ℕ → ℕ → Told Packet → List ℕ

@@ -8,10 +8,12 @@ ghost use lib.ListN.{length};
 ghost use Rattle.octets.specs.Parts.{overlay};
 ghost use Rattle.answer.specs.Writer.{Wrote};
 ghost use Rattle.packet.specs.Packet.{told as toldPacket};
+ghost use Rattle.session.specs.Step.{told as toldStep};
 ghost use Rattle.recording.specs.Sections.{told, settingsAt, countAt, frameAt};
-ghost use Rattle.recording.specs.Text.{decimal, Laid, Lined, acceptedLine, refusedLine, packetLine, turnedAwayLine, packetText, header, badRecording};
+ghost use Rattle.recording.specs.Text.{decimal, Laid, Lined, acceptedLine, refusedLine, packetLine, turnedAwayLine, packetText, answerText, header, badRecording};
 use answer::Written;
 use packet::PacketRead;
+use session::StepAnswer;
 
 // What stands at a window's start.
 pub enum Section {
@@ -226,6 +228,35 @@ pub fn bad_line(out: &mut [u8]) -> Written
     ensures { λ r. ⌜ Wrote false badRecording (now (out .entry)) r (now (out .exit)) ⌝ }
 {
     fit(out, b"bad recording\n")
+}
+
+// Puts a frame's line at the start of out, and answers its length.
+fn lay_answer(out: &mut [u8], arrival: u32, answer: StepAnswer) -> usize
+    requires { ⌜ 80 ≤ length (now out) ⌝ }
+    ensures { λ r. ⌜ Lined (answerText arrival (toldStep answer)) (now (out .entry)) (now (out .exit)) r ⌝ }
+{
+    match answer {
+        StepAnswer::Accepted {
+            arrival: _,
+            channel,
+            lost,
+            master,
+            packets,
+        } => accepted(out, arrival, channel, lost, master, packets),
+        StepAnswer::Refused(refusal) => refused(out, arrival, refusal),
+    }
+}
+
+// The line of a frame with that arrival number that the session answered so, at the start of out.
+pub fn answer_line(out: &mut [u8], arrival: u32, answer: StepAnswer) -> Written
+    ensures { λ r. ⌜ Wrote false (answerText arrival (toldStep answer)) (now (out .entry)) r (now (out .exit)) ⌝ }
+{
+    if 80 <= out.len() {
+        return Written::Length(lay_answer(out, arrival, answer));
+    }
+    let mut space = [0u8; 80];
+    let n = lay_answer(&mut space, arrival, answer);
+    fit(out, &space[..n])
 }
 
 // Puts a packet's line at the start of out, and answers its length.

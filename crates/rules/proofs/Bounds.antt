@@ -1,12 +1,11 @@
 -- The bounds of a step, and that a sound channel stays sound.
-use mathlib.Core.Path.{_≡_, refl, sym, ap, _∙_, subst}
-use mathlib.Core.List.{List, [], _∷_, _++_, append-assoc, append-nil}
+use mathlib.Core.Path.{_≡_, refl, sym, ap, _∙_}
+use mathlib.Core.List.{List, [], _∷_, _++_, append-assoc}
 use mathlib.Core.Bool.{Bool, true, false, not, _&&_, _||_, cond}
 use Prim.Native.Nat.{ℕ, zero, suc, _+_, _*_, _≤_, _<_}
 use native.Mathlib.Omega.{arith}
 use native.Mathlib.Nat.{add-zero}
 use lib.ListN.{length, take, drop, length-append, length-take, length-drop, take-append-drop}
-use lib.Seq.{take-length}
 use lib.Dec.{ltb, leb, eqb}
 use borrow.Author.Tests.{le-ltb, le-leb, lt-leb, ltb-false, leb-true, leb-false, not-false}
 use Rattle.octets.proofs.Tests.{or-left, or-right, and-true-left, and-true-right}
@@ -91,13 +90,6 @@ pub passing-sound : PassingSound
 unfolding heldWrong
 passing-sound true n h e = length-passes n h (or-right (ltb 250 n || (not true && ltb 0 n)) _ e)
 passing-sound false n h e = none-held n h (or-right (ltb 250 n) _ (or-left (ltb 250 n || (not false && ltb 0 n)) _ e))
-
--- the same of the held octets alone
-pub sound-passes : (b : Bool) (h : List ℕ) → Sound b h → heldWrong b (length h) h ≡ false
-sound-passes b h s = ap (heldWrong b (length h)) (sym (append-nil h)) ∙ sound-passing b h [] s
-
-pub passes-sound : (b : Bool) (h : List ℕ) → heldWrong b (length h) h ≡ false → Sound b h
-passes-sound b h e = subst (Sound b) (take-length h) (passing-sound b (length h) h e)
 
 -- ---- room: m octets fed to a channel that held k
 

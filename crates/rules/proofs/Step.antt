@@ -1,12 +1,11 @@
 -- Every packet handed out carries the frame's arrival number.
 use mathlib.Core.Path.{_≡_, refl}
 use mathlib.Core.List.{List, [], _∷_, _++_}
-use mathlib.Core.Option.{some}
 use mathlib.Core.Bool.{Bool, true, false, _&&_, cond}
 use Prim.Native.Nat.{ℕ, zero, suc}
 use lib.ListN.{drop}
 use lib.Dec.{eqb}
-use Rattle.rules.specs.Channel.{Piece, Held, nothing, grown, Handed, given, Status, unfinished, whole, wrong, status, Work, holding, settle, push, feed, fits, enter, follow, lostSince, Channel, afterLoss, step}
+use Rattle.rules.specs.Channel.{Held, nothing, grown, Handed, given, Status, unfinished, whole, wrong, status, Work, holding, settle, push, feed, fits, enter, follow, lostSince, afterLoss, step}
 use Rattle.rules.specs.Bounds.{Under, StepArrivals}
 
 under-more : (a : ℕ) (ps : List Handed) (p : Handed) → Under a ps → p .arrival ≡ a → Under a (ps ++ p ∷ [])

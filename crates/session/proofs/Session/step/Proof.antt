@@ -38,10 +38,10 @@ eight : (c : tie.Else1) → length (c .before .before .before .before .args .t1 
 eight c = search (needs, length-mapped)
 
 one : (c : tie.After-wide) → c .wide .result < length (c .before .before .before .before .before .before .before .before .before .before .before .before .args .t1 .channels)
-one c = omega (arith, eight (c .before .before .before .before .before .before .before .before), seen (c .before) .channel, c .wide .ensures)
+one c = let w = seen (c .before) in omega (arith, eight (c .before .before .before .before .before .before .before .before), c .wide .ensures)
 
 low : (c : tie.After-wide) → c .wide .result < 8
-low c = omega (arith, seen (c .before) .channel, c .wide .ensures)
+low c = let w = seen (c .before) in omega (arith, c .wide .ensures)
 
 heed-requires : tie.Need-heed-requires
 heed-requires c κs =
