@@ -75,13 +75,14 @@ fn octet(s: &[u8], i: usize) -> u8
     0
 }
 
-// The packet ID, the sequence control or the image number: two octets of s.
+// The number of the octets at two indices of s.
 fn word(s: &[u8], high: usize, low: usize) -> u16
     ensures { λ r. ⌜ r ≡ word (at (now (s .entry)) high) (at (now (s .entry)) low) ⌝ }
 {
     octets::word(octet(s, high), octet(s, low))
 }
 
+// The content of a verification success: packet ID and sequence control.
 fn success_of(s: &[u8]) -> Content
     ensures { λ r. ⌜ r ≡ Content.Success (successOf (now (s .entry))) ⌝ }
 {
@@ -91,6 +92,7 @@ fn success_of(s: &[u8]) -> Content
     })
 }
 
+// The content of a verification failure: packet ID, sequence control and code.
 fn failure_of(s: &[u8]) -> Content
     ensures { λ r. ⌜ r ≡ Content.Failure (failureOf (now (s .entry))) ⌝ }
 {
@@ -101,6 +103,7 @@ fn failure_of(s: &[u8]) -> Content
     })
 }
 
+// The content of a housekeeping report: SID and how many octets the rest has.
 fn housekeeping_of(p: Packet, s: &[u8]) -> Content
     requires { ⌜ 1 ≤ p .length ⌝ }
     ensures { λ r. ⌜ r ≡ Content.Housekeeping (housekeepingOf p (now (s .entry))) ⌝ }
@@ -111,6 +114,7 @@ fn housekeeping_of(p: Packet, s: &[u8]) -> Content
     })
 }
 
+// The content of an available image: image number and ticks.
 fn available_of(s: &[u8]) -> Content
     ensures { λ r. ⌜ r ≡ Content.Available (availableOf (now (s .entry))) ⌝ }
 {
@@ -120,6 +124,7 @@ fn available_of(s: &[u8]) -> Content
     })
 }
 
+// The content of an image line: image number and line.
 fn line_of(s: &[u8]) -> Content
     ensures { λ r. ⌜ r ≡ Content.Line (lineOf (now (s .entry))) ⌝ }
 {

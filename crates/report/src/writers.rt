@@ -30,38 +30,42 @@ fn write(wrong: bool, packet: Packet, source: &[u8], out: &mut [u8]) -> Written
     packet.write(source, out)
 }
 
-// Refusal 51 of each report but for the packet's fields: the pair, the lent lengths, the line.
+// Refusal 51 of a verification success, but for the packet's fields: another pair.
 fn success_wrong(p: Packet, c: Success) -> bool
     ensures { λ r. ⌜ r ≡ contentWrong p (Content.Success c) [] ⌝ }
 {
     !table::success(p)
 }
 
+// The same of a verification failure: another pair.
 fn failure_wrong(p: Packet, c: Failure) -> bool
     ensures { λ r. ⌜ r ≡ contentWrong p (Content.Failure c) [] ⌝ }
 {
     !table::failure(p)
 }
 
+// The same of a housekeeping report: another pair, or a rest of another length.
 fn housekeeping_wrong(p: Packet, c: Housekeeping, rest: &[u8]) -> bool
     ensures { λ r. ⌜ r ≡ contentWrong p (Content.Housekeeping c) (now (rest .entry) ∷ []) ⌝ }
 {
     !table::housekeeping(p) | (rest.len() != c.length)
 }
 
+// The same of an available image: another pair, or a block that hasn't 80 octets.
 fn available_wrong(p: Packet, c: Available, first: &[u8], second: &[u8]) -> bool
     ensures { λ r. ⌜ r ≡ contentWrong p (Content.Available c) (now (first .entry) ∷ now (second .entry) ∷ []) ⌝ }
 {
     !table::available(p) | ((first.len() != Available::BLOCK) | (second.len() != Available::BLOCK))
 }
 
+// The same of an image line: another pair, not 188 pixels, or a line above 119.
 fn line_wrong(p: Packet, c: Line, pixels: &[u8]) -> bool
     ensures { λ r. ⌜ r ≡ contentWrong p (Content.Line c) (now (pixels .entry) ∷ []) ⌝ }
 {
     !table::image_line(p) | (pixels.len() != Line::PIXELS) | (Line::LAST < c.line)
 }
 
-// The source data of each report, right where the lent strings are as long as they should be.
+// The source data of a verification success.
 fn success_source(c: Success) -> [u8; 4]
     ensures { λ r. ⌜ Laid (Content.Success c) [] r ⌝ }
 {
@@ -70,6 +74,7 @@ fn success_source(c: Success) -> [u8; 4]
     [id[0], id[1], control[0], control[1]]
 }
 
+// The source data of a verification failure.
 fn failure_source(c: Failure) -> [u8; 6]
     ensures { λ r. ⌜ Laid (Content.Failure c) [] r ⌝ }
 {
@@ -79,6 +84,7 @@ fn failure_source(c: Failure) -> [u8; 6]
     [id[0], id[1], control[0], control[1], code[0], code[1]]
 }
 
+// The source data of a housekeeping report, with zeros after it.
 fn housekeeping_source(c: Housekeeping, rest: &[u8]) -> [u8; 235]
     requires { ⌜ length (now rest) ≤ 234 ⌝ }
     ensures { λ r. ⌜ take (length (now (rest .entry)) + 1) r ≡ sourceData (Content.Housekeeping c) (now (rest .entry) ∷ []) ⌝ }
@@ -90,6 +96,7 @@ fn housekeeping_source(c: Housekeeping, rest: &[u8]) -> [u8; 235]
     source
 }
 
+// The source data of an available image, right if both blocks have 80 octets.
 fn available_source(c: Available, first: &[u8], second: &[u8]) -> [u8; 166]
     ensures { λ r. ⌜ Laid (Content.Available c) (now (first .entry) ∷ now (second .entry) ∷ []) r ⌝ }
 {
@@ -103,6 +110,7 @@ fn available_source(c: Available, first: &[u8], second: &[u8]) -> [u8; 166]
     source
 }
 
+// The source data of an image line, right if there are 188 pixels.
 fn line_source(c: Line, pixels: &[u8]) -> [u8; 191]
     ensures { λ r. ⌜ Laid (Content.Line c) (now (pixels .entry) ∷ []) r ⌝ }
 {
