@@ -1,7 +1,7 @@
 -- What two answers that are told alike have in common.
 use Prim.Native.Nat.{ℕ}
 use mathlib.Core.Path.{_≡_, ap}
-use mathlib.Core.Bool.{Bool, true, false, true≢false, false≢true}
+use mathlib.Core.Bool.{true≢false, false≢true}
 use Rattle.answer.specs.Told.{Told, accept, refuse}
 
 -- equal values are told alike

@@ -1,9 +1,9 @@
 -- The laws of a gap, once over the modulus.
-use Prim.Native.Nat.{ℕ, zero, suc, _+_, _-_, _*_, _%_, _≤_, _<_}
+use Prim.Native.Nat.{ℕ, _+_, _-_, _%_, _<_}
 use native.Mathlib.Nat.{mod-lt, mod-mod, mod-add-mod, add-mod-mod, mod-eq-of-lt, add-mod-right, mod-mod-of-dvd, add-assoc, dvd-of-mod-eq-zero, mod-self}
 use native.Mathlib.Omega.{arith}
-use mathlib.Core.Path.{_≡_, refl, sym, ap, _∙_}
-use Rattle.counts.specs.Gap.{gap, Leads, GapLeads, GapAlone, GapOn}
+use mathlib.Core.Path.{_≡_, sym, ap, _∙_}
+use Rattle.counts.specs.Gap.{gap, GapLeads, GapAlone, GapOn}
 
 -- going on by x and by what x lacks to m comes back
 pub gap-leads : GapLeads

@@ -1,24 +1,22 @@
 -- What holds of a frame that was accepted.
-use Prim.Native.Nat.{ℕ, zero, suc, _+_, _-_, _/_, _%_, _≤_, _<_}
+use Prim.Native.Nat.{ℕ, _+_, _-_, _/_, _%_, _≤_, _<_}
 use native.Mathlib.Omega.{arith}
-use mathlib.Core.Path.{_≡_, sym, subst}
+use mathlib.Core.Path.{_≡_, subst}
 use mathlib.Core.List.{List}
 use mathlib.Core.Bool.{Bool, true, false, not, _&&_, _||_}
-use mathlib.Core.Logic.{_⊎_, inl, inr, ⊎-elim}
+use mathlib.Core.Logic.{inl, inr, ⊎-elim}
 use borrow.Author.Tests.{ltb-true, ltb-false, eqb-true, eqb-false, not-false, not-true}
-use lib.ListN.{length, take, drop, length-drop}
-use lib.Seq.{length-take-le}
+use lib.ListN.{length, take, drop}
 use lib.Dec.{ltb, eqb}
 use Rattle.octets.specs.Numbers.{at, word}
-use Rattle.octets.specs.Parts.{part}
 use Rattle.octets.proofs.Choices.{not-picked}
-use Rattle.octets.proofs.Placing.{part-some}
+use Rattle.octets.proofs.Runs.{length-part}
 use Rattle.octets.proofs.Tests.{facts, or-true, and-true-left, and-true-right}
-use Rattle.answer.specs.Told.{Told, accept, refuse}
+use Rattle.answer.specs.Told.{accept}
 use Rattle.answer.proofs.Told.{same-fields, refuse-or-accept}
 use Rattle.crc.specs.Check.{frameCheck}
 use Rattle.frame.specs.Address.{addressWrong}
-use Rattle.frame.specs.Frame.{noFrame, lengthWrong, checkWrong, headWrong, versionWrong, flagOf, statusWrong, pointerWrong, dataLength, statusOf, frameOf, dataOf, timeOf, readWhole, readFrame}
+use Rattle.frame.specs.Frame.{lengthWrong, checkWrong, headWrong, versionWrong, flagOf, statusWrong, pointerWrong, dataLength, statusOf, frameOf, readWhole, readFrame}
 use Rattle.frame.specs.Statements.{PointerRight, Accepted, Accepts}
 use Rattle.frame.specs.declared.Frame.{Frame}
 
@@ -87,9 +85,6 @@ pointer-right pointer n h =
     (λ p. ⊎-elim (λ q. inl (ltb-true pointer n q)) (λ q. inr (inl (eqb-true pointer 255 q))) (or-true (ltb pointer n) _ p))
     (λ p. inr (inr (raw p)))
     (or-true (ltb pointer n || eqb pointer 255) _ (not-false _ h))
-
-pub length-part : (s : List ℕ) (at n : ℕ) → at + n ≤ length s → length (part s at n) ≡ n
-length-part s at n h = subst (λ (x : List ℕ). length x ≡ n) (part-some s at n h) (length-take-le n (drop at s) (simp length-drop (omega arith)))
 
 pub accepts : Accepts
 unfolding frameOf

@@ -1,18 +1,17 @@
 -- An address's octets and its fields undo one another.
 use Prim.Native.Nat.{ℕ, zero, suc, _+_, _*_, _/_, _%_, _≤_, _<_}
-use native.Mathlib.Nat.{add-zero}
 use native.Mathlib.Omega.{arith}
 use mathlib.Core.Path.{_≡_, refl, sym, ap, _∙_}
-use mathlib.Core.List.{List, [], _∷_, _++_}
-use mathlib.Core.Bool.{Bool, true, false, not, _&&_, _||_, true≢false}
+use mathlib.Core.List.{List, [], _++_}
+use mathlib.Core.Bool.{Bool, true, false, not, _||_, true≢false}
 use mathlib.Core.Logic.{⊎-elim}
 use borrow.Author.Tests.{eq-eqb, ne-eqb, eqb-true, not-false, ltb-false}
 use lib.ListN.{length, drop, drop-of-length-le}
-use lib.Seq.{drop-cons}
-use lib.Dec.{ltb, eqb}
+use lib.Dec.{eqb}
 use Rattle.octets.specs.Numbers.{at}
 use Rattle.octets.specs.Pick.{pick}
-use Rattle.octets.proofs.Tests.{facts, or-left, or-right, and-false}
+use Rattle.octets.proofs.Runs.{run, run-is}
+use Rattle.octets.proofs.Tests.{or-left, or-right, and-false}
 use Rattle.frame.specs.Address.{sign, space, strange, breaks, callsignWrong, odd, blank, startWrong, nextWrong, ssidWrong, firstWrong, addressWrong, callsignOf, addressOf, addressOctets}
 use Rattle.frame.specs.declared.Callsign.{Callsign}
 use Rattle.frame.specs.declared.Address.{Address}
@@ -201,18 +200,6 @@ callsign-right s last h =
       fifth = p .fifth .follows;
       sixth = p .sixth .follows;
     })
-
--- n octets of s from the i-th on, written out
-abbrev pub run : ℕ → ℕ → List ℕ → List ℕ
-run i zero s = []
-run i (suc n) s = at s i ∷ run (suc i) n s
-
-pub run-is : (n i : ℕ) (s : List ℕ) → i + n ≤ length s → drop i s ≡ run i n s ++ drop (i + n) s
-run-is zero i s h = simp add-zero
-run-is (suc n) i s h =
-    let e : i + suc n ≡ suc i + n = omega arith in
-    drop-cons s i 0 (omega arith)
-    ∙ ap (λ (x : List ℕ). at s i ∷ x) (run-is n (suc i) s (omega arith) ∙ ap (λ (x : ℕ). run (suc i) n s ++ drop x s) (sym e))
 
 twice : (x : ℕ) → x % 2 ≡ 0 → 2 * (x / 2) ≡ x
 twice x h = omega arith

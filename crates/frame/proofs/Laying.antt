@@ -1,24 +1,23 @@
 -- Facts that the writer's functions pass on: fields in range, and what the puts leave one after another.
 use Prim.Native.Nat.{ℕ, zero, suc, _+_, _-_, _≤_, _<_}
 use native.Mathlib.Omega.{arith}
-use mathlib.Core.Path.{_≡_, refl, sym, ap, _∙_}
+use mathlib.Core.Path.{_≡_, refl, sym, _∙_}
 use mathlib.Core.List.{List, [], _∷_, _++_}
-use mathlib.Core.Bool.{Bool, true, false, not, _&&_, _||_}
+use mathlib.Core.Bool.{Bool, true, false, not, _&&_}
 use mathlib.Core.Logic.{⊎-elim}
-use borrow.Author.Tests.{leb-true, eqb-true, not-false, ltb-false}
+use borrow.Author.Tests.{leb-true, eqb-true, not-false}
 use lib.ListN.{length, take, length-append}
 use lib.Seq.{take-at}
-use lib.Dec.{ltb, leb, eqb}
+use lib.Dec.{leb}
 use Rattle.octets.specs.Parts.{put, written}
 use Rattle.octets.proofs.Placing.{put-first, after}
-use Rattle.octets.proofs.Tests.{facts, or-left, or-right, and-true-right, or-true, and-false}
+use Rattle.octets.proofs.Tests.{facts, or-left, and-true-right, or-true, and-false}
 use Rattle.crc.specs.Check.{frameCheck, octetsOf}
 use Rattle.crc.specs.Check.Order.{lowFirst}
 use Rattle.frame.specs.Address.{sign, space, strange, breaks, callsignWrong, addressOctets}
 use Rattle.frame.specs.Asked.{Fits, Room}
 use Rattle.frame.specs.Frame.{flagOf, pointerWrong}
 use Rattle.frame.specs.Writer.{fieldsWrong, headOf, front, statusOctet, body, sealed, frameOctets}
-use Rattle.frame.specs.declared.Callsign.{Callsign}
 use Rattle.frame.specs.declared.Address.{Address}
 use Rattle.frame.specs.declared.Frame.{Frame}
 

@@ -1,12 +1,12 @@
 -- Facts that the reader's functions pass on.
-use Prim.Native.Nat.{ℕ, zero, suc, _+_, _-_, _≤_, _<_}
+use Prim.Native.Nat.{ℕ, zero, suc, _+_, _-_, _≤_}
 use native.Mathlib.Omega.{arith}
 use mathlib.Core.Path.{_≡_, refl, ap}
 use mathlib.Core.List.{List}
-use mathlib.Core.Bool.{Bool, false}
+use mathlib.Core.Bool.{false}
 use lib.ListN.{length}
 use Rattle.octets.proofs.Tests.{facts}
-use Rattle.answer.specs.Told.{Told, accept}
+use Rattle.answer.specs.Told.{accept}
 use Rattle.frame.specs.Asked.{Whole}
 use Rattle.frame.specs.Frame.{flagOf, lengthWrong}
 

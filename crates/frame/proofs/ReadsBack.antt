@@ -3,12 +3,11 @@ use Prim.Native.Nat.{ℕ, _+_, _-_, _*_, _/_, _%_, _≤_}
 use native.Mathlib.Omega.{arith}
 use mathlib.Core.Path.{_≡_, refl, sym, ap, _∙_}
 use mathlib.Core.List.{List, [], _∷_, _++_, append-assoc}
-use mathlib.Core.Bool.{Bool, false}
+use mathlib.Core.Bool.{false}
 use borrow.Author.Tests.{le-ltb, eq-eqb}
 use lib.ListN.{length, take, drop, length-append}
 use lib.Seq.{take-at, drop-at, getD-append-seam}
 use Rattle.octets.specs.Numbers.{at}
-use Rattle.octets.specs.Parts.{part}
 use Rattle.octets.specs.Pick.{pick}
 use Rattle.octets.proofs.Placing.{part-some}
 use Rattle.answer.specs.Told.{accept}
@@ -17,7 +16,7 @@ use Rattle.crc.specs.Check.Order.{lowFirst}
 use Rattle.crc.proofs.Ends.{found}
 use Rattle.frame.specs.Address.{addressOf}
 use Rattle.frame.specs.Frame.{lengthWrong, checkWrong, headWrong, versionWrong, flagOf, statusWrong, pointerWrong, dataLength, statusOf, frameOf, dataOf, timeOf, readWhole, readFrame}
-use Rattle.frame.specs.Statements.{ReadBack, ReadsBack}
+use Rattle.frame.specs.Statements.{ReadsBack}
 use Rattle.frame.specs.Writer.{fieldsWrong, front, statusOctet, body, sealed, frameOctets}
 use Rattle.frame.specs.declared.Frame.{Frame}
 use Rattle.frame.proofs.AddressTrip.{octets-right, octets-back}

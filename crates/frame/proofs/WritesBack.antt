@@ -1,26 +1,26 @@
 -- What the reader accepted, the writer accepts and gives.
-use Prim.Native.Nat.{ℕ, zero, suc, _+_, _-_, _*_, _/_, _%_, _≤_, _<_}
+use Prim.Native.Nat.{ℕ, _+_, _-_, _*_, _/_, _%_, _≤_, _<_}
 use native.Mathlib.Omega.{arith}
 use native.Mathlib.Numerals.{add-one}
 use mathlib.Core.Path.{_≡_, refl, sym, ap, _∙_, subst}
 use mathlib.Core.List.{List, [], _∷_, _++_}
-use mathlib.Core.Bool.{Bool, false}
+use mathlib.Core.Bool.{false}
 use borrow.Author.Tests.{le-ltb, eq-eqb}
 use lib.ListN.{length, take, drop, length-drop}
 use lib.Seq.{take-add, take-suc, length-take-le}
-use lib.Dec.{ltb, eqb}
 use Rattle.octets.specs.Numbers.{at}
 use Rattle.octets.proofs.Placing.{part-some}
+use Rattle.octets.proofs.Runs.{run, run-is, length-part}
 use Rattle.crc.specs.Check.{ones}
 use Rattle.crc.specs.Check.Order.{lowFirst}
 use Rattle.crc.proofs.Ends.{accepted}
-use Rattle.frame.specs.Address.{callsignWrong, callsignOf, addressOf, addressOctets}
-use Rattle.frame.specs.Frame.{flagOf, pointerWrong, dataLength, statusOf, frameOf, dataOf, timeOf}
+use Rattle.frame.specs.Address.{addressOf, addressOctets}
+use Rattle.frame.specs.Frame.{flagOf, dataLength, statusOf, frameOf, dataOf, timeOf}
 use Rattle.frame.specs.Statements.{WrittenBack, WritesBack}
 use Rattle.frame.specs.Writer.{fieldsWrong, headOf, front, statusOctet, body, sealed, frameOctets}
 use Rattle.frame.specs.declared.Frame.{Frame}
-use Rattle.frame.proofs.Accepts.{Passed, passed, length-part}
-use Rattle.frame.proofs.AddressTrip.{octets-of, callsign-right, run, run-is}
+use Rattle.frame.proofs.Accepts.{Passed, passed}
+use Rattle.frame.proofs.AddressTrip.{octets-of, callsign-right}
 
 module _ (t : ℕ) (s : List ℕ) (k : Passed t s) where
   f : Frame

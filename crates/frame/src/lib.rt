@@ -94,7 +94,7 @@ impl Frame {
     pub fn data(self, octets: &[u8]) -> &[u8]
         ensures { λ r. ⌜ now r ≡ dataOf self (now (octets .entry)) ⌝ }
     {
-        octets::part(octets, Frame::HEADER + Frame::SECOND_HEADER, self.length)
+        octets::part(octets, reading::DATA_AT, self.length)
     }
 
     // The time, t octets, of a frame's octets; none if they have not all of it.
@@ -104,7 +104,7 @@ impl Frame {
         if octets.len() < self.length {
             return &octets[..0];
         }
-        let at = Frame::HEADER + Frame::SECOND_HEADER + 1 + self.length;
+        let at = reading::BEFORE_TIME + self.length;
         octets::part(octets, at, t as usize)
     }
 

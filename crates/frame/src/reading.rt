@@ -3,16 +3,40 @@ ghost use mathlib.Core.Path.{_≡_};
 ghost use lib.ListN.{length};
 ghost use Prim.Native.Nat.{_≤_};
 ghost use Rattle.frame.specs.Asked.{Whole};
-ghost use Rattle.frame.specs.Frame.{told, flagOf, lengthWrong, checkWrong, headWrong, versionWrong, statusWrong, pointerWrong, dataLength, statusOf, frameOf, readWhole};
+ghost use Rattle.frame.specs.Frame.{told, flagOf, lengthWrong, checkWrong, headWrong, versionWrong, statusWrong, pointerWrong, frameOf, readWhole};
 use super::Frame;
 use super::FrameRead;
 use super::addresses;
 use counts::ChannelCount;
 use counts::MasterCount;
 
+// The control and the protocol octet.
 pub(crate) const CONTROL: u8 = 0x03;
 
 pub(crate) const PROTOCOL: u8 = 0xf0;
+
+// Where the octets before the data stand.
+pub(crate) const SOURCE_AT: usize = addresses::LENGTH;
+
+pub(crate) const CONTROL_AT: usize = SOURCE_AT + addresses::LENGTH;
+
+const PROTOCOL_AT: usize = CONTROL_AT + 1;
+
+const CHANNEL_AT: usize = Frame::HEADER;
+
+const MASTER_AT: usize = CHANNEL_AT + 1;
+
+const COUNT_AT: usize = MASTER_AT + 1;
+
+const POINTER_AT: usize = COUNT_AT + 1;
+
+pub(crate) const DATA_AT: usize = Frame::HEADER + Frame::SECOND_HEADER;
+
+// The octets before the time, beside the data: those before the data, and the status octet.
+pub(crate) const BEFORE_TIME: usize = DATA_AT + 1;
+
+// The status octet before the time and the check's two octets behind it.
+const AROUND_TIME: usize = 3;
 
 // Whether a frame of n octets is too short or too long: refusal 10.
 pub(crate) fn length_wrong(t: usize, n: usize) -> bool
@@ -36,10 +60,10 @@ fn head_wrong(s: &[u8]) -> bool
     requires { ⌜ 23 ≤ length (now s) ⌝ }
     ensures { λ r. ⌜ r ≡ headWrong (now (s .entry)) ⌝ }
 {
-    (addresses::first_wrong(&s[0..7], 0) < addresses::NONE)
-        | (addresses::first_wrong(&s[7..14], 1) < addresses::NONE)
-        | (s[14] != CONTROL)
-        | (s[15] != PROTOCOL)
+    (addresses::first_wrong(&s[0..SOURCE_AT], 0) < addresses::NONE)
+        | (addresses::first_wrong(&s[SOURCE_AT..CONTROL_AT], 1) < addresses::NONE)
+        | (s[CONTROL_AT] != CONTROL)
+        | (s[PROTOCOL_AT] != PROTOCOL)
 }
 
 // Whether the information's first octet x has a version or a spare that isn't 0: refusal 13.
@@ -80,16 +104,16 @@ fn frame_of(t: usize, s: &[u8]) -> Frame
     requires { ⌜ Whole t (now s) ⌝ }
     ensures { λ r. ⌜ r ≡ frameOf t (now (s .entry)) ⌝ }
 {
-    let destination = addresses::address_of(&s[0..7]);
-    let source = addresses::address_of(&s[7..14]);
+    let destination = addresses::address_of(&s[0..SOURCE_AT]);
+    let source = addresses::address_of(&s[SOURCE_AT..CONTROL_AT]);
     Frame {
         destination,
         source,
-        channel: s[16] / 8,
-        master: MasterCount(s[17]),
-        count: ChannelCount(s[18]),
-        pointer: s[19],
-        telecommands: s[s.len() - 3 - t] % 4,
+        channel: s[CHANNEL_AT] / 8,
+        master: MasterCount(s[MASTER_AT]),
+        count: ChannelCount(s[COUNT_AT]),
+        pointer: s[POINTER_AT],
+        telecommands: s[s.len() - AROUND_TIME - t] % 4,
         length: s.len() - Frame::LEAST - t,
     }
 }
@@ -105,13 +129,13 @@ pub(crate) fn read_whole(t: usize, s: &[u8]) -> FrameRead
     if head_wrong(s) {
         return FrameRead::Refused(answer::FRAME_ADDRESS);
     }
-    if version_wrong(s[Frame::HEADER]) {
+    if version_wrong(s[CHANNEL_AT]) {
         return FrameRead::Refused(answer::FRAME_VERSION);
     }
-    if status_wrong(t, s[s.len() - 3 - t]) {
+    if status_wrong(t, s[s.len() - AROUND_TIME - t]) {
         return FrameRead::Refused(answer::FRAME_STATUS);
     }
-    if pointer_wrong(s[19], s.len() - Frame::LEAST - t) {
+    if pointer_wrong(s[POINTER_AT], s.len() - Frame::LEAST - t) {
         return FrameRead::Refused(answer::FRAME_POINTER);
     }
     FrameRead::Frame(frame_of(t, s))

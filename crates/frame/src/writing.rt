@@ -66,8 +66,8 @@ fn lay_front(f: Frame, out: &mut [u8])
     let source = addresses::address_octets(f.source, 1);
     let rest = head(f);
     octets::put(out, 0, &destination);
-    octets::put(out, 7, &source);
-    octets::put(out, 14, &rest);
+    octets::put(out, reading::SOURCE_AT, &source);
+    octets::put(out, reading::CONTROL_AT, &rest);
 }
 
 // The frame's octets before the check, at the start of out; beyond them out stays.
@@ -75,11 +75,11 @@ fn lay_body(f: Frame, t: usize, data: &[u8], time: &[u8], out: &mut [u8])
     requires { ⌜ Room f t (now «data») (now time) (now out) ⌝ }
     ensures { λ r. ⌜ now (out .exit) ≡ written (body f t (now («data» .entry)) (now (time .entry))) (now (out .entry)) ⌝ }
 {
-    let status_at = data.len() + 20;
+    let status_at = data.len() + reading::DATA_AT;
     let time_at = status_at + 1;
     let state = [status(f, t)];
     lay_front(f, out);
-    octets::put(out, 20, data);
+    octets::put(out, reading::DATA_AT, data);
     octets::put(out, status_at, &state);
     octets::put(out, time_at, time);
 }
@@ -99,7 +99,7 @@ pub(crate) fn lay(f: Frame, t: usize, data: &[u8], time: &[u8], out: &mut [u8])
     requires { ⌜ Room f t (now «data») (now time) (now out) ⌝ }
     ensures { λ r. ⌜ now (out .exit) ≡ written (frameOctets f t (now («data» .entry)) (now (time .entry))) (now (out .entry)) ⌝ }
 {
-    let n = data.len() + 21 + t;
+    let n = data.len() + reading::BEFORE_TIME + t;
     lay_body(f, t, data, time, out);
     seal(out, n);
 }

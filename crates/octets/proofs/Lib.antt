@@ -2,5 +2,6 @@ pub mod Choices
 pub mod Fixed
 pub mod Laws
 pub mod Placing
+pub mod Runs
 pub mod Tests
 pub mod Unique

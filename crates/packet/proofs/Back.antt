@@ -1,25 +1,26 @@
 -- The packet's reader and its writer undo one another.
-use Prim.Native.Nat.{ℕ, zero, suc, _+_, _-_, _/_, _%_, _≤_, _<_}
+use Prim.Native.Nat.{ℕ, suc, _+_, _-_, _/_, _%_, _≤_, _<_}
 use native.Mathlib.Omega.{arith}
 use native.Mathlib.Nat.{add-zero}
 use mathlib.Core.Path.{_≡_, refl, sym, ap, _∙_}
-use mathlib.Core.List.{List, [], _∷_, _++_}
+use mathlib.Core.List.{List, [], _++_}
 use mathlib.Core.Bool.{false}
 use borrow.Author.Tests.{le-ltb, eq-eqb}
 use lib.ListN.{length, take, drop, length-append, take-append-drop, drop-of-length-le, length-drop}
-use lib.Seq.{take-at, drop-cons, getD-append-add, take-add, length-take-le}
+use lib.Seq.{take-at, getD-append-add, take-add, length-take-le}
 use Rattle.octets.specs.Numbers.{at, word, wordOf}
 use Rattle.octets.specs.Pick.{pick}
 use Rattle.octets.proofs.Choices.{not-picked}
 use Rattle.octets.proofs.Laws.{word-of, word-high, word-low, five-of}
 use Rattle.octets.proofs.Placing.{part-some}
+use Rattle.octets.proofs.Runs.{run, run-is}
 use Rattle.octets.proofs.Tests.{facts}
 use Rattle.answer.specs.Told.{accept}
 use Rattle.answer.proofs.Told.{same-fields, refuse-or-accept}
 use Rattle.crc.specs.Check.{packetCheck}
 use Rattle.packet.specs.Packet.{lengthWrong, checkWrong, bitsWrong, fieldsOf, readPacket, sourceOf}
 use Rattle.packet.specs.Write.{fieldsWrong, InRange, headerOf, checked, packetOctets}
-use Rattle.packet.specs.Back.{ReadBack, ReadsBack, WrittenBack, WritesBack}
+use Rattle.packet.specs.Back.{ReadsBack, WritesBack}
 use Rattle.packet.proofs.Laws.{in-range, length-octets}
 use Rattle.packet.specs.declared.Packet.{Packet}
 
@@ -83,18 +84,6 @@ reads-back p d right =
       source = source-right p d right;
     }
 
--- n octets of s from the i-th on, written out
-abbrev run : ℕ → ℕ → List ℕ → List ℕ
-run i zero s = []
-run i (suc n) s = at s i ∷ run (suc i) n s
-
-run-is : (n i : ℕ) (s : List ℕ) → i + n ≤ length s → drop i s ≡ run i n s ++ drop (i + n) s
-run-is zero i s h = simp add-zero
-run-is (suc n) i s h =
-    let k : i < length s = omega arith in
-    let e : i + suc n ≡ suc i + n = omega arith in
-    drop-cons s i 0 k ∙ ap (λ (x : List ℕ). at s i ∷ x) (run-is n (suc i) s (omega arith) ∙ ap (λ (x : ℕ). run (suc i) n s ++ drop x s) (sym e))
-
 -- what was not refused, as facts
 pub record Accepted (s : List ℕ) (p : Packet) : Type 0 where
   pub least : 16 ≤ length s
@@ -117,6 +106,14 @@ accepted {s} {p} h =
     let g : bitsWrong s ≡ false = c .0 in
     let f : fieldsOf s ≡ p = same-fields (c .1) in
     search facts
+
+-- a packet has 16 octets besides its source data
+pub length-of : (s : List ℕ) (p : Packet) → readPacket s ≡ accept p → length s ≡ p .length + 16
+unfolding fieldsOf
+length-of s p h =
+    let k : Accepted s p = accepted h in
+    let n : length s - 16 ≡ p .length = ap (λ (q : Packet). q .length) (k .fields) in
+    omega (arith, n, k .least)
 
 module _ (s : List ℕ) (p : Packet) (octet : (i : ℕ) → at s i < 256) (h : readPacket s ≡ accept p) where
   k : Accepted s p

@@ -2,10 +2,10 @@
 use Prim.Native.Nat.{ℕ, _+_, _≤_, _<_}
 use native.Mathlib.Omega.{arith}
 use mathlib.Core.Path.{_≡_, refl, sym, ap, _∙_}
-use mathlib.Core.List.{List, _++_}
+use mathlib.Core.List.{List, _++_, append-assoc}
 use mathlib.Core.Bool.{Bool, false}
-use lib.ListN.{length, take, length-append}
-use lib.Seq.{take-at}
+use lib.ListN.{length, take, drop, length-append}
+use lib.Seq.{take-at, drop-at}
 use Rattle.octets.specs.Numbers.{wordOf}
 use Rattle.octets.specs.Parts.{put, written}
 use Rattle.octets.proofs.Tests.{facts}
@@ -58,3 +58,15 @@ module _ (p : Packet) (source out : List ℕ) where
       let f₂ : out₂ ≡ written b out = e₂ ∙ rw f₁ (put-next (headerOf p) source out 14 refl (omega arith)) in
       let fk : k ≡ packetCheck b = ek ∙ ap packetCheck (rw f₂ (take-at b _ _ (sym lb))) in
       e₃ ∙ rw (ec, f₂) (rw fk (put-next b (wordOf (packetCheck b)) out _ lb (omega arith)))
+
+regroup : (h a b k : List ℕ) → (h ++ (a ++ b)) ++ k ≡ (h ++ a) ++ (b ++ k)
+regroup h a b k = simp append-assoc
+
+-- what stands in a packet after the first octets a of its source data
+pub after-source : (p : Packet) (a b : List ℕ)
+    → drop (14 + length a) (packetOctets p (a ++ b)) ≡ b ++ wordOf (packetCheck (headerOf p ++ (a ++ b)))
+unfolding packetOctets checked
+after-source p a b =
+    let k : List ℕ = wordOf (packetCheck (headerOf p ++ (a ++ b))) in
+    ap (drop (14 + length a)) (regroup (headerOf p) a b k)
+    ∙ drop-at (headerOf p ++ a) (b ++ k) (14 + length a) (length-append (headerOf p) a)

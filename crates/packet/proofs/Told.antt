@@ -1,12 +1,33 @@
 -- No two answers of the reader are told alike.
-use mathlib.Core.Path.{_≡_, ap}
+use Prim.Native.Nat.{ℕ}
+use mathlib.Core.Path.{_≡_, refl, ap}
+use mathlib.Core.List.{List}
+use mathlib.Core.Bool.{Bool, true, false, false≢true}
+use Rattle.octets.specs.Pick.{pick}
+use Rattle.answer.specs.Told.{accept, refuse}
 use Rattle.answer.proofs.Told.{same-fields, same-refusal, accept-or-refuse, refuse-or-accept}
-use Rattle.packet.specs.Packet.{told}
+use Rattle.packet.specs.Packet.{lengthWrong, checkWrong, bitsWrong, fieldsOf, noPacket, told, readPacket}
+use Rattle.packet.specs.declared.Packet.{Packet}
 use Rattle.packet.specs.declared.PacketRead.{PacketRead}
-use Rattle.packet.specs.declared.PacketRead.the-variants.{Packet, Refused}
+use Rattle.packet.specs.declared.PacketRead.the-variants as read
 
 pub told-apart : (x y : PacketRead) → told x ≡ told y → x ≡ y
-told-apart (Packet p) (Packet q) h = ap Packet (same-fields h)
-told-apart (Refused n) (Refused m) h = ap Refused (same-refusal h)
-told-apart (Packet p) (Refused m) h = accept-or-refuse h
-told-apart (Refused n) (Packet q) h = refuse-or-accept h
+told-apart (read.Packet p) (read.Packet q) h = ap read.Packet (same-fields h)
+told-apart (read.Refused n) (read.Refused m) h = ap read.Refused (same-refusal h)
+told-apart (read.Packet p) (read.Refused m) h = accept-or-refuse h
+told-apart (read.Refused n) (read.Packet q) h = refuse-or-accept h
+
+-- an answer that accepts tells no refusal
+whole : (a b c : Bool) (l m n : ℕ) (p : Packet)
+    → pick a (refuse noPacket l) (pick b (refuse noPacket m) (pick c (refuse noPacket n) (accept p))) .accepted ≡ true
+    → pick a (refuse noPacket l) (pick b (refuse noPacket m) (pick c (refuse noPacket n) (accept p)))
+    ≡ accept (pick a (refuse noPacket l) (pick b (refuse noPacket m) (pick c (refuse noPacket n) (accept p))) .fields)
+unfolding pick
+whole true b c l m n p h = absurd (false≢true h)
+whole false true c l m n p h = absurd (false≢true h)
+whole false false true l m n p h = absurd (false≢true h)
+whole false false false l m n p h = refl
+
+pub accepts : (s : List ℕ) → readPacket s .accepted ≡ true → readPacket s ≡ accept (readPacket s .fields)
+unfolding readPacket
+accepts s h = whole (lengthWrong s) (checkWrong s) (bitsWrong s) 20 21 22 (fieldsOf s) h

@@ -267,7 +267,15 @@ fn lay_packet(out: &mut [u8], arrival: u32, size: u16, read: PacketRead) -> usiz
     match read {
         PacketRead::Packet(p) => {
             let sequence = p.sequence;
-            taken(out, arrival, p.apid, sequence.0, p.service, p.subtype, size as u32)
+            taken(
+                out,
+                arrival,
+                p.apid,
+                sequence.0,
+                p.service,
+                p.subtype,
+                size as u32,
+            )
         }
         PacketRead::Refused(refusal) => turned_away(out, arrival, refusal, size as u32),
     }

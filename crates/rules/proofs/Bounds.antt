@@ -5,14 +5,14 @@ use mathlib.Core.Bool.{Bool, true, false, not, _&&_, _||_, cond}
 use Prim.Native.Nat.{ℕ, zero, suc, _+_, _*_, _≤_, _<_}
 use native.Mathlib.Omega.{arith}
 use native.Mathlib.Nat.{add-zero}
-use lib.ListN.{length, drop, length-append, length-drop, length-map}
+use lib.ListN.{length, take, drop, length-append, length-take, length-drop, take-append-drop}
 use lib.Dec.{ltb, leb, eqb}
-use borrow.Author.Tests.{lt-ltb, le-ltb, le-leb, lt-leb, ltb-false, leb-true, leb-false, not-false}
+use borrow.Author.Tests.{le-ltb, le-leb, lt-leb, ltb-false, leb-true, leb-false, not-false}
 use Rattle.octets.proofs.Tests.{or-left, or-right, and-true-left, and-true-right}
-use Rattle.rules.specs.Channel.{Piece, Held, nothing, grown, Handed, given, Status, unfinished, whole, wrong, status, allowed, lengthIn, Work, outOfStep, holding, settle, push, feed, fits, enter, follow, lostSince, Channel, fresh, afterLoss, Answer, step}
+use Rattle.rules.specs.Channel.{Held, nothing, grown, Handed, given, Status, unfinished, whole, wrong, status, allowed, lengthIn, Work, outOfStep, holding, settle, push, feed, fits, enter, follow, lostSince, afterLoss, step}
 use Rattle.rules.specs.Packets.{Good, AllGood, joined, bare}
-use Rattle.rules.specs.Bounds.{heldWrong, Sound, SoundPasses, PassesSound, FreshSound, Bounded, StepBounded}
-use Rattle.rules.proofs.Status.{Order, upTo, past, order, View, short, more, done, bad, view, not-whole, not-wrong, status-short, status-part, empty-unfinished, whole-good}
+use Rattle.rules.specs.Bounds.{heldWrong, Sound, PassingSound, SoundPassing, FreshSound, StepBounded}
+use Rattle.rules.proofs.Status.{Order, upTo, past, order, View, short, more, done, bad, view, not-whole, not-wrong, length-said, status-short, status-part, empty-unfinished, whole-good}
 
 -- ---- sound channels
 
@@ -36,14 +36,16 @@ held-out : (b : Bool) (h : List ℕ) → Sound b h → (not b && ltb 0 (length h
 held-out true h s = refl
 held-out false h s = rw s
 
-pub sound-passes : SoundPasses
+pub sound-passing : SoundPassing
 unfolding heldWrong
-sound-passes b h s = go (view h)
+sound-passing b h r s = go (view h)
   where
-    go : View h → heldWrong b (length h) h ≡ false
+    go : View h → heldWrong b (length h) (h ++ r) ≡ false
     go (short a e) = rw (le-ltb 250 (length h) (omega arith), held-out b h s, le-ltb 5 (length h) (omega arith))
     go (more a c d f e) =
+        let same : lengthIn h ≡ lengthIn (h ++ r) = length-said h r (h ++ r) refl a in
         rw (
+          ← same,
           le-ltb 250 (length h) (omega arith),
           held-out b h s,
           le-leb 6 (length h) a,
@@ -54,27 +56,40 @@ sound-passes b h s = go (view h)
     go (done a c d f e) = not-whole (sound-status b h s) e
     go (bad a n e) = not-wrong (sound-status b h s) e
 
-none-held : (h : List ℕ) → ltb 0 (length h) ≡ false → h ≡ []
-none-held [] e = refl
-none-held (x ∷ h) e = absurd (omega (arith, ltb-false 0 (length (x ∷ h)) e))
+none-held : (n : ℕ) (h : List ℕ) → ltb 0 n ≡ false → take n h ≡ []
+none-held zero h e = refl
+none-held (suc n) h e = absurd (omega (arith, ltb-false 0 (suc n) e))
 
-length-passes : (h : List ℕ) → (leb 6 (length h) && (not (allowed (lengthIn h)) || leb (lengthIn h) (length h))) ≡ false → status h ≡ unfinished
-length-passes h e = go (order 6 (length h))
+part-unfinished : (n : ℕ) (h : List ℕ) → 16 ≤ lengthIn h → lengthIn h ≤ 251 → n < lengthIn h → status (take n h) ≡ unfinished
+part-unfinished n h k l m = go (order 6 (length (take n h)))
   where
-    go : Order 6 (length h) → status h ≡ unfinished
-    go (past l t) = status-short h l
+    go : Order 6 (length (take n h)) → status (take n h) ≡ unfinished
+    go (past q t) = status-short (take n h) q
+    go (upTo q t) =
+        let same : lengthIn (take n h) ≡ lengthIn h = length-said (take n h) (drop n h) h (take-append-drop n h) q in
+        let few : length (take n h) ≤ n = simp length-take (omega arith) in
+        status-part (take n h) (omega arith) (omega arith) (omega arith)
+
+length-passes : (n : ℕ) (h : List ℕ) → (leb 6 n && (not (allowed (lengthIn h)) || leb (lengthIn h) n)) ≡ false → status (take n h) ≡ unfinished
+length-passes n h e = go (order 6 n)
+  where
+    few : length (take n h) ≤ n
+    few = simp length-take (omega arith)
+
+    go : Order 6 n → status (take n h) ≡ unfinished
+    go (past l t) = status-short (take n h) (omega (arith, few))
     go (upTo l t) =
-        let rest : (not (allowed (lengthIn h)) || leb (lengthIn h) (length h)) ≡ false = rw t at e in
-        let size : allowed (lengthIn h) ≡ true = not-false (allowed (lengthIn h)) (or-left (not (allowed (lengthIn h))) (leb (lengthIn h) (length h)) rest) in
-        status-part h
+        let rest : (not (allowed (lengthIn h)) || leb (lengthIn h) n) ≡ false = rw t at e in
+        let size : allowed (lengthIn h) ≡ true = not-false (allowed (lengthIn h)) (or-left (not (allowed (lengthIn h))) (leb (lengthIn h) n) rest) in
+        part-unfinished n h
         (leb-true 16 (lengthIn h) (and-true-left (leb 16 (lengthIn h)) (leb (lengthIn h) 251) size))
         (leb-true (lengthIn h) 251 (and-true-right (leb 16 (lengthIn h)) (leb (lengthIn h) 251) size))
-        (leb-false (lengthIn h) (length h) (or-right (not (allowed (lengthIn h))) (leb (lengthIn h) (length h)) rest))
+        (leb-false (lengthIn h) n (or-right (not (allowed (lengthIn h))) (leb (lengthIn h) n) rest))
 
-pub passes-sound : PassesSound
+pub passing-sound : PassingSound
 unfolding heldWrong
-passes-sound true h e = length-passes h (or-right (ltb 250 (length h) || (not true && ltb 0 (length h))) _ e)
-passes-sound false h e = none-held h (or-right (ltb 250 (length h)) _ (or-left (ltb 250 (length h) || (not false && ltb 0 (length h))) _ e))
+passing-sound true n h e = length-passes n h (or-right (ltb 250 n || (not true && ltb 0 n)) _ e)
+passing-sound false n h e = none-held n h (or-right (ltb 250 n) _ (or-left (ltb 250 n || (not false && ltb 0 n)) _ e))
 
 -- ---- room: m octets fed to a channel that held k
 
@@ -211,8 +226,8 @@ step-bounded a c f o l =
     let r : Room (length (c .held .octets)) (length (f .octets)) w = loss-room a n (c .inStep) (c .held) (f .pointer) (f .octets) o in
     record {
       sound = r .sound;
-      held = sound-held (w .inStep) (w .held .octets) (r .sound);
+      held = omega (arith, sound-held (w .inStep) (w .held .octets) (r .sound));
       good = r .good;
-      packets = at-most-16 (length (f .octets)) (bare (w .packets)) (w .held .octets) l (r .few);
+      packets = omega (arith, at-most-16 (length (f .octets)) (bare (w .packets)) (w .held .octets) l (r .few));
       octets = omega (arith, r .octets, sound-held (c .inStep) (c .held .octets) o);
     }

@@ -1,16 +1,16 @@
 -- Rule 5 a packet at a time is rule 5 an octet at a time.
-use mathlib.Core.Path.{_≡_, refl, sym, ap, _∙_, subst}
+use mathlib.Core.Path.{_≡_, refl, sym, ap, _∙_}
 use mathlib.Core.List.{List, [], _∷_, _++_, append-assoc, append-nil}
-use mathlib.Core.Bool.{Bool, true, false, true≢false, false≢true, cond}
-use Prim.Native.Nat.{ℕ, zero, suc, _+_, _-_, _≤_, _<_}
+use mathlib.Core.Bool.{Bool, true, false, true≢false, false≢true}
+use Prim.Native.Nat.{ℕ, _+_, _≤_}
 use native.Mathlib.Omega.{arith}
-use lib.ListN.{length, take, drop, length-append, length-drop, take-append-drop}
-use lib.Seq.{length-take-le, take-append-add, drop-append-add, take-append-seam}
+use lib.ListN.{length, take, drop, length-append, take-append-drop}
+use lib.Seq.{length-take-le}
 use Rattle.rules.specs.Channel.{Held, nothing, grown, Handed, given, Status, unfinished, whole, wrong, status, lengthIn, Work, outOfStep, holding, settle, push, feed}
-use Rattle.rules.specs.Packets.{Good, joined, bare}
-use Rattle.rules.specs.Cutting.{Cut, cutBy, cutOf, behind, CutsOn, CutsUnfinished, CutsWrong, CutsWhole, CutsFront}
+use Rattle.rules.specs.Packets.{Good, bare}
+use Rattle.rules.specs.Cutting.{Cut, cutBy, cutOf, behind, CutsOn, CutsUnfinished, CutsWrong, CutsWhole}
 use Rattle.rules.proofs.Status.{View, short, more, done, bad, view, not-whole, not-wrong, not-both, length-said, status-whole, status-unfinished, empty-unfinished}
-use Rattle.rules.proofs.Bounds.{bare-append, joined-append}
+use Rattle.rules.proofs.Bounds.{bare-append}
 
 -- ---- arrival numbers do not matter, and what was handed out before stays in front
 
@@ -193,52 +193,3 @@ cuts-whole s w =
     let same : lengthIn (take n s) ≡ n = length-said (take n s) (drop n s) s (take-append-drop n s) (omega (arith, b .least)) in
     let g : Good (take n s) = record { least = omega (arith, b .least); greatest = omega (arith, b .greatest); says = omega arith } in
     ap (λ (l : List ℕ). cutBy (feed 0 (holding nothing []) l)) (sym (take-append-drop n s)) ∙ whole-then 0 (take n s) (drop n s) g
-
--- ---- the packets are the front of the octets
-
-record Front (w : Work) (s : List ℕ) : Type 0 where
-  rest : List ℕ
-  all : joined (bare (w .packets)) ++ rest ≡ s
-  kept : w .inStep ≡ true → rest ≡ w .held .octets
-
-push-front : (a : ℕ) (b : Bool) (h : Held) (ps : List Handed) (x : ℕ) (s : List ℕ) → Front (record { inStep = b; held = h; packets = ps }) s
-    → Front (push a (record { inStep = b; held = h; packets = ps }) x) (s ++ x ∷ [])
-unfolding push
-push-front a false h ps x s f = record {
-  rest = f .rest ++ x ∷ [];
-  all = sym (append-assoc (joined (bare ps)) (f .rest) (x ∷ [])) ∙ ap (λ (l : List ℕ). l ++ x ∷ []) (f .all);
-  kept = λ e. absurd (false≢true e);
-}
-push-front a true h ps x s f = go (status (h .octets ++ x ∷ []))
-  where
-    on : joined (bare ps) ++ (h .octets ++ x ∷ []) ≡ s ++ x ∷ []
-    on =
-        sym (append-assoc (joined (bare ps)) (h .octets) (x ∷ []))
-        ∙ ap (λ (l : List ℕ). (joined (bare ps) ++ l) ++ x ∷ []) (sym (f .kept refl))
-        ∙ ap (λ (l : List ℕ). l ++ x ∷ []) (f .all)
-
-    out : joined (bare (ps ++ given a (grown h x) ∷ [])) ++ [] ≡ s ++ x ∷ []
-    out =
-        append-nil (joined (bare (ps ++ given a (grown h x) ∷ [])))
-        ∙ ap joined (bare-append ps (given a (grown h x) ∷ []))
-        ∙ joined-append (bare ps) ((h .octets ++ x ∷ []) ∷ [])
-        ∙ ap (λ (l : List ℕ). joined (bare ps) ++ l) (append-nil (h .octets ++ x ∷ []))
-        ∙ on
-
-    go : (st : Status) → Front (settle a st (grown h x) ps) (s ++ x ∷ [])
-    go unfinished = record { rest = h .octets ++ x ∷ []; all = on; kept = λ e. refl }
-    go wrong = record { rest = h .octets ++ x ∷ []; all = on; kept = λ e. absurd (false≢true e) }
-    go whole = record { rest = []; all = out; kept = λ e. refl }
-
-feed-front : (a : ℕ) (xs : List ℕ) (w : Work) (s : List ℕ) → Front w s → Front (feed a w xs) (s ++ xs)
-feed-front a [] w s f = rw append-nil f
-feed-front a (x ∷ xs) w s f =
-    subst (Front (feed a (push a w x) xs)) (append-assoc s (x ∷ []) xs)
-    (feed-front a xs (push a w x) (s ++ x ∷ []) (push-front a (w .inStep) (w .held) (w .packets) x s f))
-
-pub cuts-front : CutsFront
-unfolding cutOf
-cuts-front s =
-    let w : Work = feed 0 (holding nothing []) s in
-    let f : Front w s = feed-front 0 s (holding nothing []) [] (record { rest = []; all = refl; kept = λ e. refl }) in
-    ap (take (length (joined (bare (w .packets))))) (sym (f .all)) ∙ take-append-seam (joined (bare (w .packets))) (f .rest)

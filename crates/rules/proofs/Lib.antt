@@ -1,3 +1,4 @@
+pub mod BothSides
 pub mod Status
 pub mod Bounds
 pub mod Cutting

@@ -1,12 +1,12 @@
 -- What a packet's octets so far amount to.
-use mathlib.Core.Path.{_≡_, refl, sym, ap, _∙_, subst}
+use mathlib.Core.Path.{_≡_, refl, sym, ap, _∙_}
 use mathlib.Core.List.{List, [], _∷_, _++_}
-use mathlib.Core.Bool.{Bool, true, false, cond}
-use Prim.Native.Nat.{ℕ, zero, suc, _+_, _≤_, _<_}
+use mathlib.Core.Bool.{Bool, true, false}
+use Prim.Native.Nat.{ℕ, suc, _+_, _≤_, _<_}
 use native.Mathlib.Omega.{arith}
 use lib.ListN.{length, length-append, List·getD-append}
 use lib.Dec.{leb}
-use borrow.Author.Tests.{lt-ltb, le-ltb, le-leb, lt-leb, leb-true, leb-false}
+use borrow.Author.Tests.{lt-ltb, leb-true, leb-false}
 use Rattle.octets.specs.Numbers.{at}
 use Rattle.rules.specs.Channel.{Status, unfinished, whole, wrong, status, lengthIn}
 use Rattle.rules.specs.Packets.{Good}
@@ -65,19 +65,6 @@ not-both p q = let z : _≡_ {A = ℕ} 0 1 = cc in absurd (omega arith)
 pub status-short : (h : List ℕ) → length h < 6 → status h ≡ unfinished
 unfolding status
 status-short h l = rw (lt-ltb (length h) 6 l)
-
-pub status-small : (h : List ℕ) → 6 ≤ length h → lengthIn h < 16 → status h ≡ wrong
-unfolding status
-status-small h l m = rw (le-ltb (length h) 6 l, lt-leb 16 (lengthIn h) m)
-
-pub status-large : (h : List ℕ) → 6 ≤ length h → 251 < lengthIn h → status h ≡ wrong
-status-large h l m = go (view h)
-  where
-    go : View h → status h ≡ wrong
-    go (short a e) = absurd (omega arith)
-    go (more a b c d e) = absurd (omega arith)
-    go (done a b c d e) = absurd (omega arith)
-    go (bad a n e) = e
 
 pub status-part : (h : List ℕ) → 16 ≤ lengthIn h → lengthIn h ≤ 251 → length h < lengthIn h → status h ≡ unfinished
 status-part h k l m = go (view h)

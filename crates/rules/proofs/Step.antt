@@ -1,40 +1,12 @@
--- The fields of a step's answer, each by itself.
+-- Every packet handed out carries the frame's arrival number.
 use mathlib.Core.Path.{_≡_, refl}
 use mathlib.Core.List.{List, [], _∷_, _++_}
-use mathlib.Core.Option.{Option, some}
 use mathlib.Core.Bool.{Bool, true, false, _&&_, cond}
 use Prim.Native.Nat.{ℕ, zero, suc}
 use lib.ListN.{drop}
 use lib.Dec.{eqb}
-use Rattle.rules.specs.Channel.{Piece, Held, nothing, grown, Handed, given, Status, unfinished, whole, wrong, status, Work, outOfStep, holding, settle, push, feed, fits, enter, follow, lostSince, Channel, afterLoss, step}
+use Rattle.rules.specs.Channel.{Held, nothing, grown, Handed, given, Status, unfinished, whole, wrong, status, Work, holding, settle, push, feed, fits, enter, follow, lostSince, afterLoss, step}
 use Rattle.rules.specs.Bounds.{Under, StepArrivals}
-
--- what rules 1 to 5 make of the frame
-abbrev pub workOf : ℕ → Channel → Piece → Work
-workOf a c f = afterLoss a (lostSince (c .last) (f .count)) (c .inStep) (c .held) (f .pointer) (f .octets)
-
-module _ (a : ℕ) (c : Channel) (f : Piece) where
-  pub step-lost : step a c f .lost ≡ lostSince (c .last) (f .count)
-  unfolding step
-  step-lost = refl
-
-  pub step-last : step a c f .next .last ≡ some (f .count)
-  unfolding step
-  step-last = refl
-
-  pub step-in-step : step a c f .next .inStep ≡ workOf a c f .inStep
-  unfolding step
-  step-in-step = refl
-
-  pub step-held : step a c f .next .held ≡ workOf a c f .held
-  unfolding step
-  step-held = refl
-
-  pub step-packets : step a c f .packets ≡ workOf a c f .packets
-  unfolding step
-  step-packets = refl
-
--- ---- every packet carries the frame's arrival number
 
 under-more : (a : ℕ) (ps : List Handed) (p : Handed) → Under a ps → p .arrival ≡ a → Under a (ps ++ p ∷ [])
 under-more a [] p u e = (e, tt)

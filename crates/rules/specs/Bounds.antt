@@ -1,9 +1,9 @@
 -- What every step keeps to, whoever sent the frame.
 use Prim.Native.Nat.{ℕ, _≤_}
 use mathlib.Core.Path.{_≡_}
-use mathlib.Core.List.{List, [], _∷_}
+use mathlib.Core.List.{List, [], _∷_, _++_}
 use mathlib.Core.Bool.{Bool, true, false, not, _&&_, _||_}
-use lib.ListN.{length}
+use lib.ListN.{length, take}
 use lib.Dec.{leb, ltb}
 use Rattle.rules.specs.Channel.{Piece, Handed, allowed, lengthIn, status, unfinished, Channel, fresh, Answer, step}
 use Rattle.rules.specs.Packets.{AllGood, joined, bare}
@@ -21,12 +21,12 @@ abbrev pub Sound : Bool → List ℕ → Type 0
 Sound true held = status held ≡ unfinished
 Sound false held = held ≡ []
 
--- A channel is sound exactly if refusal 4 does not hold of it.
-abbrev pub SoundPasses : Type 0
-SoundPasses = (inStep : Bool) (held : List ℕ) → Sound inStep held → heldWrong inStep (length held) held ≡ false
+-- A channel that holds the first n of these octets is sound exactly if refusal 4 does not hold of it.
+abbrev pub PassingSound : Type 0
+PassingSound = (inStep : Bool) (n : ℕ) (octets : List ℕ) → heldWrong inStep n octets ≡ false → Sound inStep (take n octets)
 
-abbrev pub PassesSound : Type 0
-PassesSound = (inStep : Bool) (held : List ℕ) → heldWrong inStep (length held) held ≡ false → Sound inStep held
+abbrev pub SoundPassing : Type 0
+SoundPassing = (inStep : Bool) (held behind : List ℕ) → Sound inStep held → heldWrong inStep (length held) (held ++ behind) ≡ false
 
 abbrev pub FreshSound : Type 0
 FreshSound = Sound (fresh .inStep) (fresh .held .octets)

@@ -3,9 +3,9 @@ use Prim.Native.Nat.{ℕ}
 use mathlib.Core.Path.{_≡_}
 use mathlib.Core.List.{List, [], _∷_, _++_}
 use mathlib.Core.Bool.{Bool, true, false}
-use lib.ListN.{length, take, drop}
+use lib.ListN.{take, drop}
 use Rattle.rules.specs.Channel.{Held, nothing, Handed, Work, holding, feed, status, unfinished, whole, wrong, lengthIn}
-use Rattle.rules.specs.Packets.{joined, bare}
+use Rattle.rules.specs.Packets.{bare}
 
 -- What of a channel's work does not depend on arrival numbers: in step or not, the octets held, the packets handed out.
 pub record Cut : Type 0 where
@@ -38,7 +38,3 @@ CutsWrong = (s : List ℕ) → status s ≡ wrong → cutOf s ≡ record { inSte
 
 abbrev pub CutsWhole : Type 0
 CutsWhole = (s : List ℕ) → status s ≡ whole → cutOf s ≡ behind (take (lengthIn s) s ∷ []) (cutOf (drop (lengthIn s) s))
-
--- The packets are the front of the octets.
-abbrev pub CutsFront : Type 0
-CutsFront = (s : List ℕ) → take (length (joined (cutOf s .packets))) s ≡ joined (cutOf s .packets)

@@ -2,3 +2,4 @@ pub mod Channel
 pub mod Packets
 pub mod Bounds
 pub mod Cutting
+pub mod BothSides

@@ -1,23 +1,23 @@
 -- Rules 1 to 4 by the tests that the code makes.
-use Prim.Native.Nat.{ℕ, zero, suc, _+_, _-_, _≤_, _<_}
+use Prim.Native.Nat.{ℕ, zero, suc, _-_, _≤_, _<_}
 use native.Mathlib.Omega.{arith}
 use mathlib.Core.Path.{_≡_, refl, sym, ap, _∙_, subst}
 use mathlib.Core.Bool.{Bool, true, false, _&&_}
 use mathlib.Core.Option.{none}
 use mathlib.Core.List.{List, [], _++_, append-nil}
 use lib.ListN.{length, take, drop, length-drop}
-use lib.Dec.{eqb}
 use borrow.Author.Tests.{eq-eqb, ne-eqb}
-use Rattle.rules.specs.Channel.{Held, nothing, Work, outOfStep, holding, feed, fits, enter, follow, afterLoss, lostSince, step}
+use Rattle.frame.specs.declared.Frame.{Frame}
+use Rattle.rules.specs.Channel.{Held, nothing, Work, outOfStep, holding, feed, fits, enter, follow, afterLoss, answer, lostSince, step}
 use Rattle.rules.specs.Packets.{bare}
-use Rattle.rules.specs.Bounds.{Sound}
 use Rattle.rules.specs.Cutting.{Cut, cutOf}
 use Rattle.rules.proofs.Status.{empty-unfinished}
 use Rattle.rules.proofs.Bounds.{sound-status, sound-held, step-bounded}
 use Rattle.rules.proofs.Cutting.{cuts-on}
-use Rattle.session.specs.Channel.{heldOf, channelOf, stored}
-use Rattle.session.specs.Asked.{Begun, Taken, Heard, Followable}
-use Rattle.session.specs.Kept.{Works}
+use Rattle.session.specs.Channel.{heldOf, view, channelOf, stored}
+use Rattle.session.specs.Step.{pieceOf}
+use Rattle.session.specs.Asked.{Begun, Taken, Followable}
+use Rattle.session.specs.Promised.{Follows}
 use Rattle.session.specs.declared.Channel.{Channel}
 use Rattle.session.specs.declared.channels.Followed.{Followed}
 use Rattle.session.proofs.Keeping.{to-end}
@@ -38,6 +38,32 @@ module _ (a lost : ℕ) (inStep : Bool) (h : Held) (pointer : ℕ) (xs : List �
       go : (n : ℕ) → n ≤ 0 → afterLoss a n inStep h pointer xs ≡ follow a inStep h pointer xs
       go zero k = refl
       go (suc n) k = absurd (omega arith)
+
+-- as the step of a channel has it
+module _ (a lost : ℕ) (c : Channel) (f : Frame) (xs : List ℕ) (e : lost ≡ lostSince (view c .last) (f .count .0)) (r : Followed)
+    (out list out′ list′ : List ℕ) where
+  abbrev Answers : Work → Type 0
+  Answers w = Follows (answer (f .count .0) lost w) r out list out′ list′
+
+  steps : Answers (afterLoss a lost (view c .inStep) (view c .held) (f .pointer) xs) → Follows (step a (view c) (pieceOf f xs)) r out list out′ list′
+  unfolding step
+  steps h =
+      subst
+      (λ (n : ℕ).
+      Follows (answer (f .count .0) n (afterLoss a n (view c .inStep) (view c .held) (f .pointer) xs)) r out list out′ list′)
+      e h
+
+  pub steps-lost : 0 < lost → Answers (follow a false (heldOf []) (f .pointer) xs) → Follows (step a (view c) (pieceOf f xs)) r out list out′ list′
+  steps-lost l h = steps (subst Answers (sym (after-loss a lost (view c .inStep) (view c .held) (f .pointer) xs l)) h)
+
+  pub steps-on : (k : ℕ) → lost ≤ 0 → k ≡ c .length → Answers (follow a (c .instep) (heldOf (take k (c .held))) (f .pointer) xs)
+      → Follows (step a (view c) (pieceOf f xs)) r out list out′ list′
+  unfolding view
+  steps-on k l ek h =
+      steps
+      (subst Answers
+      (ap (λ (n : ℕ). follow a (c .instep) (heldOf (take n (c .held))) (f .pointer) xs) ek
+      ∙ sym (no-loss a lost (view c .inStep) (view c .held) (f .pointer) xs l)) h)
 
 -- ---- rules 2 to 4
 
@@ -63,34 +89,35 @@ module _ (inStep : Bool) (held : List ℕ) (pointer : ℕ) (xs : List ℕ) where
     unfolding follow enter
     is-entered n e p = simp (ne-eqb _ _ n, e, ne-eqb _ _ p)
 
-    module _ (count : ℕ) (out list out′ list′ : List ℕ) where
+    module _ (count lost : ℕ) (out list out′ list′ : List ℕ) where
       pub follows-raw : (x : Channel) → pointer ≡ 254 → x ≡ stored (channelOf count inStep (heldOf (held ++ [])))
-          → Works followed count (record { channel = x; packets = 0 }) out list out list
+          → Follows (answer count lost followed) (record { channel = x; lost = lost; packets = 0 }) out list out list
       follows-raw x e h =
-          subst (λ (w : Work). Works w count (record { channel = x; packets = 0 }) out list out list) (sym (is-raw e))
+          subst (λ (w : Work). Follows (answer count lost w) (record { channel = x; lost = lost; packets = 0 }) out list out list) (sym (is-raw e))
           (record {
             channel = h ∙ ap (λ (l : List ℕ). stored (channelOf count inStep (heldOf l))) (append-nil held);
+            lost = refl;
             packets = refl;
             octets = refl;
             lengths = refl;
           })
 
       pub follows-skipped : (x : Channel) → (pointer ≡ 254 → ⊥) → (inStep && fits held pointer xs) ≡ false → pointer ≡ 255
-          → x ≡ stored (channelOf count false nothing) → Works followed count (record { channel = x; packets = 0 }) out list out list
+          → x ≡ stored (channelOf count false nothing) → Follows (answer count lost followed) (record { channel = x; lost = lost; packets = 0 }) out list out list
       follows-skipped x n e p h =
-          subst (λ (w : Work). Works w count (record { channel = x; packets = 0 }) out list out list) (sym (is-skipped n e p))
-          (record { channel = h; packets = refl; octets = refl; lengths = refl })
+          subst (λ (w : Work). Follows (answer count lost w) (record { channel = x; lost = lost; packets = 0 }) out list out list) (sym (is-skipped n e p))
+          (record { channel = h; lost = refl; packets = refl; octets = refl; lengths = refl })
 
       pub follows-on : (r : Followed) → (pointer ≡ 254 → ⊥) → (inStep && fits held pointer xs) ≡ true
-          → Works (feed a (holding (heldOf held) []) xs) count r out list out′ list′ → Works followed count r out list out′ list′
-      follows-on r n e h = subst (λ (w : Work). Works w count r out list out′ list′) (sym (is-on n e)) h
+          → Follows (answer count lost (feed a (holding (heldOf held) []) xs)) r out list out′ list′ → Follows (answer count lost followed) r out list out′ list′
+      follows-on r n e h = subst (λ (w : Work). Follows (answer count lost w) r out list out′ list′) (sym (is-on n e)) h
 
       pub follows-entered : (r : Followed) (at : ℕ) → (pointer ≡ 254 → ⊥) → (inStep && fits held pointer xs) ≡ false → (pointer ≡ 255 → ⊥)
-          → at ≡ pointer → Works (feed a (holding (heldOf []) []) (take (length xs - at) (drop at xs))) count r out list out′ list′
-          → Works followed count r out list out′ list′
+          → at ≡ pointer → Follows (answer count lost (feed a (holding (heldOf []) []) (take (length xs - at) (drop at xs)))) r out list out′ list′
+          → Follows (answer count lost followed) r out list out′ list′
       follows-entered r at n e p i h =
-          subst (λ (w : Work). Works w count r out list out′ list′) (sym (is-entered n e p))
-          (subst (λ (l : List ℕ). Works (feed a (holding nothing []) l) count r out list out′ list′)
+          subst (λ (w : Work). Follows (answer count lost w) r out list out′ list′) (sym (is-entered n e p))
+          (subst (λ (l : List ℕ). Follows (answer count lost (feed a (holding nothing []) l)) r out list out′ list′)
           (to-end xs at ∙ ap (λ (k : ℕ). drop k xs) i) h)
 
   -- ---- what the calls ask

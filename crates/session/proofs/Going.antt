@@ -17,8 +17,7 @@ use Rattle.rules.proofs.Bounds.{joined-append, sound-held}
 use Rattle.rules.proofs.Status.{Order, upTo, past, order, status-short, status-part, status-full}
 use Rattle.rules.proofs.Cutting.{Whole, whole-size, cuts-unfinished, cuts-wrong, cuts-whole}
 use Rattle.session.specs.Asked.{Counted}
-use Rattle.session.specs.Kept.{Cuts}
-use Rattle.session.specs.declared.cutting.Found.{Found}
+use Rattle.session.specs.Promised.{Cuts}
 use Rattle.session.proofs.Fitting.{Within, outside, status-outside, less-than-said}
 
 -- Packets are being cut out of held and xs: `done` are cut, with `at` octets, and their lengths are written.

@@ -3,18 +3,17 @@ use Prim.Native.Nat.{ℕ, zero, suc, _+_, _≤_, _<_}
 use native.Mathlib.Nat.{le-of-suc-le-suc, not-suc-le-zero}
 use native.Mathlib.Numerals.{add-one}
 use native.Mathlib.Omega.{arith}
-use mathlib.Core.Path.{_≡_, refl, sym, ap, _∙_, subst}
+use mathlib.Core.Path.{_≡_, refl, sym, ap, _∙_}
 use mathlib.Core.Bool.{Bool, true, false, not, _&&_, _||_}
 use mathlib.Core.List.{List, [], _∷_, map}
-use lib.ListN.{length, take, drop, getD, drop-of-length-le}
-use lib.Seq.{drop-cons, length-take-le, getD-take}
+use lib.ListN.{length, drop, getD, drop-of-length-le}
+use lib.Seq.{drop-cons}
 use lib.Dec.{ltb, leb}
-use borrow.Author.Tests.{lt-ltb, le-ltb, lt-leb, ltb-false}
+use borrow.Author.Tests.{lt-ltb, le-ltb, ltb-false}
+use Rattle.octets.specs.Numbers.{at, word}
 use Rattle.octets.proofs.Tests.{or-left, or-right}
 use Rattle.rules.specs.Channel.{allowed, lengthIn}
-use Rattle.rules.specs.Bounds.{heldWrong, Sound}
-use Rattle.rules.proofs.Bounds.{passes-sound}
-use Rattle.rules.proofs.Status.{Order, upTo, past, order}
+use Rattle.rules.specs.Bounds.{heldWrong}
 use Rattle.session.specs.Channel.{channelUnsound, anyUnsound, unsound}
 use Rattle.session.specs.declared.Channel.{Channel}
 use Rattle.session.specs.declared.Session.{Session}
@@ -66,33 +65,28 @@ pub sound-at : (s : Session) (i : ℕ) (d : Channel) → i < length (s .channels
 unfolding unsound
 sound-at s i d h e = all-sound (s .channels) i d h (or-right (ltb 8 (s .t)) (anyUnsound (s .channels)) e)
 
--- ---- a channel's array, and the octets in it that are held
+-- ---- what is held
 
-size-held : (n : ℕ) (l : List ℕ) → 6 ≤ n → lengthIn (take n l) ≡ lengthIn l
-size-held n l h = rw (getD-take n l 4 0 (omega arith), getD-take n l 5 0 (omega arith))
-
--- only the held octets count
-pub wrong-held : (b : Bool) (n : ℕ) (l : List ℕ) → heldWrong b n (take n l) ≡ heldWrong b n l
+-- nothing held is never wrong
+none : (b : Bool) (l : List ℕ) → heldWrong b 0 l ≡ false
 unfolding heldWrong
-wrong-held b n l = go (order 6 n)
-  where
-    go : Order 6 n → heldWrong b n (take n l) ≡ heldWrong b n l
-    go (upTo h t) = rw (size-held n l h)
-    go (past h t) = rw t
+none true l = refl
+none false l = refl
+
+pub none-wrong : (b : Bool) (n : ℕ) (l : List ℕ) → n ≡ 0 → heldWrong b n l ≡ false
+none-wrong b n l e = ap (λ (k : ℕ). heldWrong b k l) e ∙ none b l
+
+-- with something held, by the code's tests
+pub some-wrong : (b : Bool) (n : ℕ) (l : List ℕ) (m w : ℕ) → m ≡ n → (m ≡ 0 → ⊥) → w ≡ word (at l 4) (at l 5)
+    → ((ltb 250 m || not b) || (leb 6 m && (not (allowed (w + 7)) || leb (w + 7) m))) ≡ heldWrong b n l
+unfolding heldWrong
+some-wrong true n l m w e z h = rw (e, h)
+some-wrong false n l m w e z h = let p : ltb 0 n ≡ true = lt-ltb 0 n (omega (arith, e, z)) in rw (e, h, p)
 
 -- above 250 comes first
-wrong-most : (b : Bool) (n : ℕ) (l : List ℕ) → heldWrong b n l ≡ false → n ≤ 250
+pub held-most : (b : Bool) (n : ℕ) (l : List ℕ) → heldWrong b n l ≡ false → n ≤ 250
 unfolding heldWrong
-wrong-most b n l e =
+held-most b n l e =
     ltb-false 250 n
     (or-left (ltb 250 n) (not b && ltb 0 n)
     (or-left (ltb 250 n || (not b && ltb 0 n)) (leb 6 n && (not (allowed (lengthIn l)) || leb (lengthIn l) n)) e))
-
-pub held-most : (c : Channel) → channelUnsound c ≡ false → c .length ≤ 250
-held-most c e = wrong-most (c .instep) (c .length) (c .held) e
-
-pub held-sound : (c : Channel) → length (c .held) ≡ 250 → channelUnsound c ≡ false → Sound (c .instep) (take (c .length) (c .held))
-held-sound c l e =
-    let n : length (take (c .length) (c .held)) ≡ c .length = length-take-le (c .length) (c .held) (omega (arith, held-most c e)) in
-    passes-sound (c .instep) (take (c .length) (c .held))
-    (ap (λ (k : ℕ). heldWrong (c .instep) k (take (c .length) (c .held))) n ∙ wrong-held (c .instep) (c .length) (c .held) ∙ e)

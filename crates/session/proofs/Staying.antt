@@ -1,10 +1,10 @@
 -- No session that opening and steps give gets refusal 4: its channels are kept as `stored` keeps sound ones.
-use Prim.Native.Nat.{ℕ, zero, suc, _+_, _-_, _≤_}
+use Prim.Native.Nat.{ℕ, zero, suc, _-_, _≤_}
 use native.Mathlib.Omega.{arith}
 use mathlib.Core.Path.{_≡_, refl, sym, ap, _∙_, subst}
 use mathlib.Core.Bool.{Bool, true, false, true≢false, false≢true, _||_}
 use mathlib.Core.Option.{Option, none, some}
-use mathlib.Core.List.{List, [], _∷_, _++_}
+use mathlib.Core.List.{List, [], _∷_}
 use lib.ListN.{length, getD, set, replicate, length-set}
 use lib.Seq.{take-append-seam}
 use lib.Dec.{ltb, eqb}
@@ -12,21 +12,19 @@ use borrow.Author.Tests.{le-ltb, ltb-false}
 use Rattle.octets.specs.Pick.{pick}
 use Rattle.answer.specs.Told.{Told, accept, refuse}
 use Rattle.answer.specs.Refusals as no
-use Rattle.frame.specs.Frame.{noFrame, lengthWrong, checkWrong, headWrong, versionWrong, statusWrong, pointerWrong, statusOf, dataLength, frameOf, dataOf, readWhole, readFrame}
-use Rattle.frame.specs.Statements.{Accepted}
+use Rattle.frame.specs.Frame.{noFrame, lengthWrong, checkWrong, headWrong, versionWrong, statusWrong, pointerWrong, statusOf, dataLength, dataOf, readWhole, readFrame}
 use Rattle.frame.specs.declared.Frame.{Frame}
 use Rattle.frame.proofs.Accepts.{accepts}
 use Rattle.octets.specs.Numbers.{at}
 use Rattle.rules.specs.Channel as rules
-use Rattle.rules.specs.Bounds.{heldWrong, Sound}
-use Rattle.rules.proofs.Bounds.{fresh-sound, sound-passes, step-bounded}
-use Rattle.session.specs.Channel.{lastOf, heardOf, countOf, heldOf, view, stored, fresh, channelUnsound, anyUnsound, unsound}
+use Rattle.rules.specs.Bounds.{Sound}
+use Rattle.rules.proofs.Bounds.{fresh-sound, sound-passing, step-bounded}
+use Rattle.session.specs.Channel.{lastOf, heardOf, countOf, view, stored, fresh, channelUnsound, anyUnsound, unsound}
 use Rattle.session.specs.Open.{Opening, opened, opening}
 use Rattle.session.specs.Step.{Outcome, refused, counted, channelAt, pieceOf, ruled, accepted, heeded, outcome}
 use Rattle.session.specs.Statements.{Offer, after, StaysSound}
 use Rattle.session.specs.declared.Channel.{Channel}
 use Rattle.session.specs.declared.Session.{Session}
-use Rattle.session.proofs.Soundness.{wrong-held}
 
 picks : {A : Type 0} (P : A → Type 0) (b : Bool) (x y : A) → (b ≡ true → P x) → (b ≡ false → P y) → P (pick b x y)
 unfolding pick
@@ -62,12 +60,7 @@ kept-step a c f k l = record { channel = rules.step a (view c) f .next; sound = 
 
 stored-sound : (c : rules.Channel) → Sound (c .inStep) (c .held .octets) → channelUnsound (stored c) ≡ false
 unfolding stored
-stored-sound c s =
-    let h : List ℕ = c .held .octets in
-    let z : List ℕ = replicate (250 - length h) 0 in
-    sym (wrong-held (c .inStep) (length h) (h ++ z))
-    ∙ ap (heldWrong (c .inStep) (length h)) (take-append-seam h z)
-    ∙ sound-passes (c .inStep) h s
+stored-sound c s = sound-passing (c .inStep) (c .held .octets) (replicate (250 - length (c .held .octets)) 0) s
 
 kept-sound : (c : Channel) → Kept c → channelUnsound c ≡ false
 kept-sound c k = ap channelUnsound (k .same) ∙ stored-sound (k .channel) (k .sound)

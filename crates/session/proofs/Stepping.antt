@@ -1,27 +1,25 @@
 -- What a step gives, from what its parts gave.
-use Prim.Native.Nat.{ℕ, _+_, _≤_, _<_}
+use Prim.Native.Nat.{ℕ, _≤_}
 use native.Mathlib.Omega.{arith}
 use mathlib.Core.Path.{_≡_, refl, sym, ap, _∙_, subst}
 use mathlib.Core.Bool.{Bool, true, false, _||_}
 use mathlib.Core.Logic.{⊎-elim}
-use mathlib.Core.List.{List, [], map}
-use lib.ListN.{length, getD, set}
-use lib.Dec.{ltb, eqb}
+use mathlib.Core.List.{List}
+use lib.ListN.{length, set}
+use lib.Dec.{ltb}
 use borrow.Author.Tests.{eq-eqb, ne-eqb, ltb-false}
-use Rattle.octets.specs.Parts.{written}
 use Rattle.octets.specs.Pick.{pick}
 use Rattle.octets.proofs.Tests.{or-left, or-right}
-use Rattle.answer.specs.Told.{Told, accept, refuse}
+use Rattle.answer.specs.Told.{accept, refuse}
 use Rattle.answer.specs.Refusals as no
 use Rattle.frame.specs.Frame.{noFrame, readFrame, dataOf}
 use Rattle.frame.specs.Statements.{PointerRight, Accepted}
 use Rattle.frame.specs.declared.Frame.{Frame}
-use Rattle.rules.specs.Channel.{Work, afterLoss, lostSince, step}
-use Rattle.rules.specs.Packets.{bare, joined}
-use Rattle.session.specs.Channel.{lastOf, view, fresh, stored, unsound}
-use Rattle.session.specs.Step.{Outcome, told, refused, counted, channelAt, ruled, accepted, heeded, outcome, Gives}
-use Rattle.session.specs.Asked.{Points, Heard, Offered}
-use Rattle.session.specs.Kept.{Works}
+use Rattle.rules.specs.Channel.{lostSince, step}
+use Rattle.session.specs.Channel.{lastOf, view, channelUnsound, unsound}
+use Rattle.session.specs.Step.{Outcome, told, refused, counted, channelAt, pieceOf, ruled, accepted, heeded, outcome, Gives}
+use Rattle.session.specs.Asked.{Points, Asked}
+use Rattle.session.specs.Promised.{Follows}
 use Rattle.session.specs.declared.Channel.{Channel}
 use Rattle.session.specs.declared.Session.{Session}
 use Rattle.session.specs.declared.Stepped.{Stepped}
@@ -31,31 +29,23 @@ use Rattle.session.specs.declared.channels.Followed.{Followed}
 -- ---- an accepted frame
 
 -- c is the frame's channel, wherever it was read from
-module _ (s : Session) (f : Frame) (xs : List ℕ) (i lost master : ℕ) (c : Channel) (ei : i ≡ f .channel) (ec : c ≡ channelAt s (f .channel))
-    (el : lost ≡ lostSince (view c .last) (f .count .0)) (em : master ≡ lostSince (lastOf (s .heard) (s .master .0)) (f .master .0))
-    (r : Followed) (out list out′ list′ : List ℕ)
-    (w : Works (afterLoss (s .arrival) lost (c .instep) (view c .held) (f .pointer) xs) (f .count .0) r out list out′ list′) where
-  abbrev work : Channel → ℕ → Work
-  work x n = afterLoss (s .arrival) n (x .instep) (view x .held) (f .pointer) xs
-
-  losses : lost ≡ lostSince (view (channelAt s (f .channel)) .last) (f .count .0)
-  losses = el ∙ ap (λ (x : Channel). lostSince (view x .last) (f .count .0)) ec
-
-  follows : Works (work (channelAt s (f .channel)) (lostSince (view (channelAt s (f .channel)) .last) (f .count .0))) (f .count .0) r out list out′ list′
-  follows =
-      subst (λ (n : ℕ). Works (work (channelAt s (f .channel)) n) (f .count .0) r out list out′ list′) losses
-      (subst (λ (x : Channel). Works (work x lost) (f .count .0) r out list out′ list′) ec w)
+module _ (s : Session) (f : Frame) (xs : List ℕ) (i master : ℕ) (c : Channel) (ei : i ≡ f .channel) (ec : c ≡ channelAt s (f .channel))
+    (em : master ≡ lostSince (lastOf (s .heard) (s .master .0)) (f .master .0)) (r : Followed) (out list out′ list′ : List ℕ)
+    (w : Follows (step (s .arrival) (view c) (pieceOf f xs)) r out list out′ list′) where
+  follows : Follows (ruled s f xs) r out list out′ list′
+  unfolding ruled
+  follows = subst (λ (x : Channel). Follows (step (s .arrival) (view x) (pieceOf f xs)) r out list out′ list′) ec w
 
   pub gives-accepted : Gives (accepted s f xs)
       (record {
         session = record { t = s .t; arrival = s .arrival; master = f .master; heard = true; channels = set (s .channels) i (r .channel) };
-        answer = answer.Accepted (s .arrival) (f .channel) lost master (r .packets);
+        answer = answer.Accepted (s .arrival) (f .channel) (r .lost) master (r .packets);
       })
       out list out′ list′
-  unfolding accepted ruled step view
+  unfolding accepted
   gives-accepted = record {
     session = simp (ei, follows .channel);
-    answers = simp (losses, em, follows .packets);
+    answers = simp (follows .lost, em, follows .packets);
     octets = follows .octets;
     lengths = follows .lengths;
   }
@@ -104,14 +94,13 @@ module _ (s : Session) (frame out list : List ℕ) where
       unfolding outcome pick
       used-up r a h = turned no.arrivals r (simp (t, u, eq-eqb _ _ a)) h
 
-      -- what is asked of an accepted frame
-      pub offered : (f : Frame) (xs : List ℕ) → Accepted (s .t) frame f → xs ≡ dataOf f frame → Offered (counted s) f xs out list
-      unfolding unsound
-      offered f xs w e =
+      -- what is asked of the channel that takes an accepted frame
+      pub asked : (f : Frame) (xs : List ℕ) (c : Channel) → Accepted (s .t) frame f → xs ≡ dataOf f frame → channelUnsound c ≡ false
+          → Asked c (f .pointer) xs out list
+      asked f xs c w e h =
           let l : length xs ≡ f .length = ap length e ∙ w .«data» in
           record {
-            channel = w .channel;
-            sound = u;
+            sound = h;
             heard = record { few = omega (arith, l, w .few); points = rw l (pointed (w .pointer)); room = room; entries = entries };
           }
 

@@ -4,13 +4,11 @@ use mathlib.Core.Path.{_≡_}
 use mathlib.Core.List.{List, _++_}
 use mathlib.Core.Bool.{Bool, false}
 use lib.ListN.{length, drop}
-use Rattle.frame.specs.declared.Frame.{Frame}
 use Rattle.rules.specs.Channel.{status, unfinished}
 use Rattle.rules.specs.Bounds.{Sound}
 use Rattle.rules.specs.Cutting.{cutOf}
-use Rattle.session.specs.Channel.{channelUnsound, unsound}
+use Rattle.session.specs.Channel.{channelUnsound}
 use Rattle.session.specs.declared.Channel.{Channel}
-use Rattle.session.specs.declared.Session.{Session}
 
 -- What is held begins a packet, and the data xs is no more than a frame has.
 pub record Begun (held xs : List ℕ) : Type 0 where
@@ -53,7 +51,7 @@ pub record Heard (pointer : ℕ) (xs out list : List ℕ) : Type 0 where
   pub room : 501 ≤ length out
   pub entries : 16 ≤ length list
 
--- The same for a channel that is in step or not and holds these octets, for a channel, and for a session.
+-- The same for a channel that is in step or not and holds these octets, and for a channel.
 pub record Followable (inStep : Bool) (held : List ℕ) (pointer : ℕ) (xs out list : List ℕ) : Type 0 where
   pub sound : Sound inStep held
   pub heard : Heard pointer xs out list
@@ -61,8 +59,3 @@ pub record Followable (inStep : Bool) (held : List ℕ) (pointer : ℕ) (xs out 
 pub record Asked (c : Channel) (pointer : ℕ) (xs out list : List ℕ) : Type 0 where
   pub sound : channelUnsound c ≡ false
   pub heard : Heard pointer xs out list
-
-pub record Offered (s : Session) (f : Frame) (xs out list : List ℕ) : Type 0 where
-  pub channel : f .channel < 8
-  pub sound : unsound s ≡ false
-  pub heard : Heard (f .pointer) xs out list

@@ -1,6 +1,6 @@
 pub mod Asked
 pub mod Channel
-pub mod Kept
 pub mod Open
+pub mod Promised
 pub mod Statements
 pub mod Step

@@ -1,21 +1,23 @@
 // One channel: rules 1 to 5.
 ghost use mathlib.Core.Path.{_≡_};
 ghost use mathlib.Core.Bool.{true, false};
-ghost use mathlib.Core.Option.{some};
 ghost use mathlib.Core.List.{[], _++_};
 ghost use Prim.Native.Nat.{ℕ, _+_, _≤_};
 ghost use lib.ListN.{length, drop};
-ghost use Rattle.rules.specs.Channel.{nothing, feed, holding, follow, afterLoss, lostSince};
+ghost use Rattle.rules.specs.Channel.{nothing, feed, holding, follow, answer, lostSince, step};
 ghost use Rattle.session.specs.Channel.{heldOf, view, channelOf, stored, fresh, channelUnsound};
+ghost use Rattle.session.specs.Step.{pieceOf};
 ghost use Rattle.session.specs.Asked.{Asked, Followable, Left, Taken};
-ghost use Rattle.session.specs.Kept.{Works};
+ghost use Rattle.session.specs.Promised.{Follows};
 use super::Channel;
 use super::cutting;
 use counts::ChannelCount;
+use frame::Frame;
 
-// A channel after a frame, and how many packets were handed out.
+// A channel after a frame, how many were lost before it, and how many packets were handed out.
 pub(crate) struct Followed {
     pub channel: Channel,
+    pub lost: u8,
     pub packets: u8,
 }
 
@@ -40,10 +42,11 @@ impl Channel {
         ensures { λ r. ⌜ r ≡ channelUnsound self ⌝ }
     {
         let n = octets::wide(self.length);
+        if n == 0 {
+            return false;
+        }
         let whole = octets::word(self.held[4], self.held[5]) as usize + 7;
-        (250 < n)
-            | (!self.instep & (0 < n))
-            | ((6 <= n) & (!((16 <= whole) & (whole <= 251)) | (whole <= n)))
+        (250 < n) | !self.instep | ((6 <= n) & (!((16 <= whole) & (whole <= 251)) | (whole <= n)))
     }
 
     // How many of the channel's frames were lost before the one with this count.
@@ -103,81 +106,78 @@ impl Channel {
         Channel::holding(count, true, &held[..0], &data[at..])
     }
 
-    // Rules 1 to 5: the channel after a frame with this count, before which so many were lost; the packets that it completes are
-    // at the start of octets, their lengths at the start of lengths.
-    pub(crate) fn followed(
+    // Rules 1 to 5: the channel after the frame f with this data; the packets that it completes are at the start of octets, their
+    // lengths at the start of lengths.
+    pub(crate) fn heed(
         self,
-        lost: u8,
-        count: ChannelCount,
-        pointer: u8,
+        f: Frame,
         data: &[u8],
         octets: &mut [u8],
         lengths: &mut [u16],
     ) -> Followed
-        requires { ⌜ Asked self pointer (now «data») (now octets) (now lengths) ⌝ }
-        ensures { λ r. ⌜ ((a : ℕ) → Works (afterLoss a lost (self .instep) (view self .held) pointer (now («data» .entry))) (count .0) r (now (octets .entry)) (now (lengths .entry)) (now (octets .exit)) (now (lengths .exit))) ⌝ }
+        requires { ⌜ Asked self (f .pointer) (now «data») (now octets) (now lengths) ⌝ }
+        ensures { λ r. ⌜ ((a : ℕ) → Follows (step a (view self) (pieceOf f (now («data» .entry)))) r (now (octets .entry)) (now (lengths .entry)) (now (octets .exit)) (now (lengths .exit))) ⌝ }
     {
         let held = self.held;
+        let count = f.count;
+        let lost = self.lost(count);
         if 0 < lost {
-            return follow(count, false, &held[..0], pointer, data, octets, lengths);
+            return follow(f, lost, false, &held[..0], data, octets, lengths);
         }
         let k = octets::wide(self.length);
-        follow(
-            count,
-            self.instep,
-            &held[..k],
-            pointer,
-            data,
-            octets,
-            lengths,
-        )
+        follow(f, lost, self.instep, &held[..k], data, octets, lengths)
     }
 }
 
-// Rules 2 to 5, for a channel with these held octets.
+// Rules 2 to 5, for a channel with these held octets, before whose frame f so many were lost.
 fn follow(
-    count: ChannelCount,
+    f: Frame,
+    lost: u8,
     instep: bool,
     held: &[u8],
-    pointer: u8,
     data: &[u8],
     octets: &mut [u8],
     lengths: &mut [u16],
 ) -> Followed
-    requires { ⌜ Followable instep (now held) pointer (now «data») (now octets) (now lengths) ⌝ }
-    ensures { λ r. ⌜ ((a : ℕ) → Works (follow a instep (heldOf (now (held .entry))) pointer (now («data» .entry))) (count .0) r (now (octets .entry)) (now (lengths .entry)) (now (octets .exit)) (now (lengths .exit))) ⌝ }
+    requires { ⌜ Followable instep (now held) (f .pointer) (now «data») (now octets) (now lengths) ⌝ }
+    ensures { λ r. ⌜ ((a : ℕ) → Follows (answer (f .count .0) lost (follow a instep (heldOf (now (held .entry))) (f .pointer) (now («data» .entry)))) r (now (octets .entry)) (now (lengths .entry)) (now (octets .exit)) (now (lengths .exit))) ⌝ }
 {
+    let count = f.count;
+    let pointer = f.pointer;
     if pointer == 254 {
         let channel = Channel::holding(count, instep, held, &data[..0]);
         return Followed {
             channel,
+            lost,
             packets: 0,
         };
     }
     if instep & cutting::fits(held, data, pointer) {
-        return take(count, held, data, octets, lengths);
+        return take(count, lost, held, data, octets, lengths);
     }
     if pointer == 255 {
         let channel = Channel::dropped(count);
         return Followed {
             channel,
+            lost,
             packets: 0,
         };
     }
     let at = octets::wide(pointer);
-    take(count, &held[..0], &data[at..], octets, lengths)
+    take(count, lost, &held[..0], &data[at..], octets, lengths)
 }
 
 // Rule 5: packets taken one after another out of the held octets and the data, and the rest held.
 fn take(
     count: ChannelCount,
+    lost: u8,
     held: &[u8],
     data: &[u8],
     octets: &mut [u8],
     lengths: &mut [u16],
 ) -> Followed
     requires { ⌜ Taken (now held) (now «data») (now octets) (now lengths) ⌝ }
-    ensures { λ r. ⌜ ((a : ℕ) → Works (feed a (holding (heldOf (now (held .entry))) []) (now («data» .entry))) (count .0) r (now (octets .entry)) (now (lengths .entry)) (now (octets .exit)) (now (lengths .exit))) ⌝ }
+    ensures { λ r. ⌜ ((a : ℕ) → Follows (answer (count .0) lost (feed a (holding (heldOf (now (held .entry))) []) (now («data» .entry)))) r (now (octets .entry)) (now (lengths .entry)) (now (octets .exit)) (now (lengths .exit))) ⌝ }
 {
     let cut = cutting::cut(held, data, lengths);
     let n = cut.octets;
@@ -185,8 +185,16 @@ fn take(
     cutting::hand_out(held, data, n, octets);
     if cut.instep {
         let channel = Channel::left(count, held, data, n);
-        return Followed { channel, packets };
+        return Followed {
+            channel,
+            lost,
+            packets,
+        };
     }
     let channel = Channel::dropped(count);
-    Followed { channel, packets }
+    Followed {
+        channel,
+        lost,
+        packets,
+    }
 }

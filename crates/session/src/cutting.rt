@@ -8,7 +8,7 @@ ghost use Rattle.octets.specs.Parts.{written};
 ghost use Rattle.octets.specs.Numbers.{at};
 ghost use Rattle.rules.specs.Channel.{lengthIn, fits, pointerTo};
 ghost use Rattle.session.specs.Asked.{Begun, Counted, Front};
-ghost use Rattle.session.specs.Kept.{Cuts};
+ghost use Rattle.session.specs.Promised.{Cuts};
 
 // The packets found: how many, how many octets they have, and in step or not afterwards.
 pub(crate) struct Found {

@@ -1,12 +1,9 @@
 // A session: eight virtual channels that take frames one after another and hand out packets.
 ghost use mathlib.Core.Path.{_≡_};
-ghost use mathlib.Core.Bool.{false};
-ghost use Prim.Native.Nat.{_<_};
 ghost use Rattle.rules.specs.Channel.{lostSince};
-ghost use Rattle.session.specs.Channel.{lastOf, fresh, unsound};
+ghost use Rattle.session.specs.Channel.{lastOf, unsound};
 ghost use Rattle.session.specs.Open.{opened, Opens};
-ghost use Rattle.session.specs.Step.{accepted, Gives, Steps};
-ghost use Rattle.session.specs.Asked.{Offered};
+ghost use Rattle.session.specs.Step.{Steps};
 use counts::ChannelCount;
 use counts::MasterCount;
 use frame::Frame;
@@ -137,39 +134,8 @@ impl Session {
         }
     }
 
-    // The session after an accepted frame f with this data, whose arrival number it has already: f's channel is replaced, and its
-    // packets are at the start of octets, their lengths at the start of lengths.
-    fn accepted(self, f: Frame, data: &[u8], octets: &mut [u8], lengths: &mut [u16]) -> Stepped
-        requires { ⌜ Offered self f (now «data») (now octets) (now lengths) ⌝ }
-        ensures { λ r. ⌜ Gives (accepted self f (now («data» .entry))) r (now (octets .entry)) (now (lengths .entry)) (now (octets .exit)) (now (lengths .exit)) ⌝ }
-    {
-        let i = octets::wide(f.channel);
-        let channel = self.channels[i];
-        let count = f.count;
-        let lost = channel.lost(count);
-        let followed = channel.followed(lost, count, f.pointer, data, octets, lengths);
-        let count = f.master;
-        let master = self.lost(count);
-        let answer = StepAnswer::Accepted {
-            arrival: self.arrival,
-            channel: f.channel,
-            lost,
-            master,
-            packets: followed.packets,
-        };
-        let mut next = self;
-        let channel = followed.channel;
-        next.channels[i] = channel;
-        next.master = count;
-        next.heard = true;
-        Stepped {
-            session: next,
-            answer,
-        }
-    }
-
-    // The session after a frame is offered, with the packets that the frame completes end to end at the start of octets, and their
-    // lengths at the start of lengths; else the first of 1, 4, 3 and the frame's 10 to 15, which alone use up an arrival number.
+    // The session after a frame is offered; the packets that it completes are end to end at the start of octets, their lengths at the
+    // start of lengths. Else the first refusal of 1, 4, 3 and the frame's 10 to 15, of which 10 to 15 use up an arrival number.
     // What is lent stays beyond that.
     pub fn step(self, frame: &[u8], octets: &mut [u8], lengths: &mut [u16]) -> Stepped
         ensures { λ r. ⌜ Steps self (now (frame .entry)) (now (octets .entry)) (now (lengths .entry)) r (now (octets .exit)) (now (lengths .exit)) ⌝ }
@@ -188,8 +154,25 @@ impl Session {
         match Frame::read(self.t, frame) {
             FrameRead::Refused(refusal) => next.refused(refusal),
             FrameRead::Frame(f) => {
-                let data = f.data(frame);
-                next.accepted(f, data, octets, lengths)
+                let i = octets::wide(f.channel);
+                let channel = self.channels[i];
+                let followed = channel.heed(f, f.data(frame), octets, lengths);
+                let channel = followed.channel;
+                let count = f.master;
+                next.channels[i] = channel;
+                next.master = count;
+                next.heard = true;
+                let answer = StepAnswer::Accepted {
+                    arrival: next.arrival,
+                    channel: f.channel,
+                    lost: followed.lost,
+                    master: self.lost(count),
+                    packets: followed.packets,
+                };
+                Stepped {
+                    session: next,
+                    answer,
+                }
             }
         }
     }

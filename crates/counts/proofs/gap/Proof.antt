@@ -1,5 +1,4 @@
 -- `gap` meets its contract: the law of the three counters.
-use native.Mathlib.Omega.{arith}
 use borrow.Author.Needs.{needs}
 use Rattle.counts.proofs.Laws.{wrapped-full}
 use Rattle.counts.proofs.gap.Statement.{statement}

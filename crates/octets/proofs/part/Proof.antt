@@ -1,7 +1,7 @@
 -- `octets::part` meets its contract.
 use native.Mathlib.Omega.{arith}
 use mathlib.Core.Path.{_≡_}
-use Prim.Native.Nat.{_+_, _≤_, _-_}
+use Prim.Native.Nat.{_+_, _-_}
 use borrow.Author.Needs.{needs}
 use Rattle.octets.proofs.Placing.{part-none, part-some}
 use Rattle.octets.proofs.part.Statement.{statement}

@@ -1,5 +1,5 @@
 -- `octets::put` meets its contract. The loop has copied the first i octets.
-use Prim.Native.Nat.{ℕ, _+_, _≤_, _-_}
+use Prim.Native.Nat.{_≤_, _-_}
 use mathlib.Core.Path.{_≡_, _∙_}
 use lib.ListN.{length, length-set}
 use native.Mathlib.Numerals.{add-one}

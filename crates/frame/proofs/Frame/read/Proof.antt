@@ -2,7 +2,6 @@ use Rattle.octets.proofs.Choices.{answers}
 use Rattle.octets.proofs.Tests.{tests}
 use Rattle.frame.specs.Frame.{readFrame}
 use Rattle.frame.proofs.Reader.{whole}
-use native.Mathlib.Omega.{arith}
 use borrow.Author.Needs.{needs}
 use Rattle.frame.proofs.Frame.read.Statement.{statement}
 use Rattle.frame.proofs.Frame.read.Tie as tie

@@ -1,4 +1,3 @@
-use native.Mathlib.Omega.{arith}
 use borrow.Author.Needs.{needs}
 use Rattle.frame.proofs.addresses.next_wrong.Statement.{statement}
 use Rattle.frame.proofs.addresses.next_wrong.Tie as tie

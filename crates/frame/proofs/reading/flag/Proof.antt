@@ -1,5 +1,4 @@
 use Rattle.frame.proofs.Reader.{flag-none, flag-some}
-use native.Mathlib.Omega.{arith}
 use borrow.Author.Needs.{needs}
 use Rattle.frame.proofs.reading.flag.Statement.{statement}
 use Rattle.frame.proofs.reading.flag.Tie as tie

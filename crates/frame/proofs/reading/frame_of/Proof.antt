@@ -1,5 +1,4 @@
 use Rattle.frame.specs.Frame.{frameOf}
-use native.Mathlib.Omega.{arith}
 use borrow.Author.Needs.{needs}
 use Rattle.frame.proofs.reading.frame_of.Statement.{statement}
 use Rattle.frame.proofs.reading.frame_of.Tie as tie

@@ -1,5 +1,4 @@
 use Rattle.frame.specs.Frame.{pointerWrong}
-use native.Mathlib.Omega.{arith}
 use borrow.Author.Needs.{needs}
 use Rattle.frame.proofs.reading.pointer_wrong.Statement.{statement}
 use Rattle.frame.proofs.reading.pointer_wrong.Tie as tie

@@ -1,5 +1,4 @@
 use Rattle.frame.specs.Frame.{statusWrong}
-use native.Mathlib.Omega.{arith}
 use borrow.Author.Needs.{needs}
 use Rattle.frame.proofs.reading.status_wrong.Statement.{statement}
 use Rattle.frame.proofs.reading.status_wrong.Tie as tie

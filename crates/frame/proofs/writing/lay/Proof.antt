@@ -1,5 +1,4 @@
 use Rattle.frame.proofs.Laying.{steps}
-use native.Mathlib.Omega.{arith}
 use borrow.Author.Needs.{needs}
 use Rattle.frame.proofs.writing.lay.Statement.{statement}
 use Rattle.frame.proofs.writing.lay.Tie as tie

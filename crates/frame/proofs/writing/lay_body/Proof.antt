@@ -1,5 +1,4 @@
 use Rattle.frame.proofs.Laying.{body-steps}
-use native.Mathlib.Omega.{arith}
 use borrow.Author.Needs.{needs}
 use Rattle.frame.proofs.writing.lay_body.Statement.{statement}
 use Rattle.frame.proofs.writing.lay_body.Tie as tie

@@ -1,5 +1,4 @@
 use Rattle.frame.proofs.Laying.{front-steps}
-use native.Mathlib.Omega.{arith}
 use borrow.Author.Needs.{needs}
 use Rattle.frame.proofs.writing.lay_front.Statement.{statement}
 use Rattle.frame.proofs.writing.lay_front.Tie as tie

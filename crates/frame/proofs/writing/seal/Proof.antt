@@ -1,6 +1,5 @@
 use mathlib.Core.Path.{sym, _∙_}
 use lib.Seq.{length-take-le}
-use native.Mathlib.Omega.{arith}
 use borrow.Author.Needs.{needs}
 use Rattle.frame.proofs.writing.seal.Statement.{statement}
 use Rattle.frame.proofs.writing.seal.Tie as tie

@@ -31,14 +31,14 @@ returns c n =
     let a = c .before .before .before .before .before .before .before .before .before .before .before .before .before .before .before .args in
     let k = c .before .before .before .before .before .before .before .before .before .cut in
     takes-on (a .held .now) (a .«data» .now) (a .octets .now) (a .lengths .now) (c .before .before .before .before .before .before .before .before .before .before .before .before .before .before .before .pre) (k .result) (k .last .1 .1 .0) (k .ensures)
-    n (a .count .0) (c .before .before .before .before .hand-out .last .1 .1 .1 .0) (c .before .before .before .before .hand-out .ensures) (c .left .result) (c .before .if1 .taken) (c .left .ensures)
+    n (a .count .0) (a .lost) (c .before .before .before .before .hand-out .last .1 .1 .1 .0) (c .before .before .before .before .hand-out .ensures) (c .left .result) (c .before .if1 .taken) (c .left .ensures)
 
 returns-2 : tie.Need-returns-2
 returns-2 c n =
     let a = c .before .before .before .before .before .before .before .before .before .before .before .before .before .before .before .args in
     let k = c .before .before .before .before .before .before .before .before .before .cut in
     takes-off (a .held .now) (a .«data» .now) (a .octets .now) (a .lengths .now) (c .before .before .before .before .before .before .before .before .before .before .before .before .before .before .before .pre) (k .result) (k .last .1 .1 .0) (k .ensures)
-    n (a .count .0) (c .before .before .before .before .hand-out .last .1 .1 .1 .0) (c .before .before .before .before .hand-out .ensures) (c .dropped .result) (c .before .if1 .left) (c .dropped .ensures)
+    n (a .count .0) (a .lost) (c .before .before .before .before .hand-out .last .1 .1 .1 .0) (c .before .before .before .before .hand-out .ensures) (c .dropped .result) (c .before .if1 .left) (c .dropped .ensures)
 
 pub take-spec : {M : Type 1} → statement M
 take-spec =

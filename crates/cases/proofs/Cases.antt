@@ -1,0 +1,13 @@
+-- The definitions compute to what the paper says.
+use mathlib.Core.Path.{refl}
+use Rattle.octets.specs.Pick.{pick}
+use Rattle.crc.specs.Check.{check}
+use Rattle.rules.specs.Channel.{lostSince}
+use Rattle.frame.specs.Frame.{statusWrong}
+use Rattle.packet.specs.Packet.{fieldsOf}
+use Rattle.sequence.specs.Sequence.{since}
+use Rattle.cases.specs.Cases.{AsThePaperSays}
+
+pub as-the-paper-says : AsThePaperSays
+unfolding pick check lostSince statusWrong fieldsOf since
+as-the-paper-says = refl

@@ -1,0 +1,138 @@
+-- A whole recording: what the sender wrote and the link left, offered to the session.
+use mathlib.Core.Path.{_≡_, refl, sym, ap, _∙_, subst}
+use mathlib.Core.List.{List, [], _∷_, _++_, map}
+use mathlib.Core.Bool.{Bool, true, false}
+use Prim.Native.Nat.{ℕ, _+_, _≤_, _<_}
+use native.Mathlib.Omega.{arith}
+use lib.ListN.{length}
+use lib.Dec.{eqb}
+use borrow.Author.Tests.{le-ltb, ne-eqb}
+use Rattle.octets.specs.Pick.{pick}
+use Rattle.octets.proofs.Choices.{passed}
+use Rattle.frame.specs.Frame.{readFrame}
+use Rattle.frame.specs.Statements.{ReadBack}
+use Rattle.frame.proofs.ReadsBack.{reads-back}
+use Rattle.frame.proofs.Accepts.{accepts}
+use Rattle.rules.specs.Channel as rules
+use Rattle.session.specs.declared.Session.{Session}
+use Rattle.session.specs.declared.Opened.{Opened}
+use Rattle.session.specs.Open.{opened, opening, Opens}
+use Rattle.session.proofs.Staying.{Reached, opening-reached}
+use Rattle.delivery.specs.Sender.{Framed, octetsOf, AllWellFormed, when, ofChannel, pieceOf, piecesOf, Stream}
+use Rattle.delivery.specs.Link.{kept, fates}
+use Rattle.delivery.specs.Expected.{Fate, lost, got, piece}
+use Rattle.delivery.specs.Delivered.{Delivered}
+use Rattle.delivery.specs.Run.{Call, Runs, Room, frameOf, reportsOf}
+use Rattle.delivery.specs.Channels.{Offer, offered, run, offerOf, offersOf}
+use Rattle.delivery.specs.Demand.{Demand3}
+use Rattle.delivery.specs.Further.{Independent}
+use Rattle.delivery.proofs.OneChannel.{AllShort, delivery}
+use Rattle.delivery.proofs.Calls.{fresh-viewed}
+use Rattle.delivery.proofs.Projection.{projects}
+
+-- ---- fates
+
+when-pieces : (b : Bool) (p : rules.Piece) (s : Fate) (ss : List Fate) → piece s ≡ p → map piece (when b s ++ ss) ≡ when b p ++ map piece ss
+when-pieces true p s ss e = ap (λ (q : rules.Piece). q ∷ map piece ss) e
+when-pieces false p s ss e = refl
+
+-- the fates are the frames'
+fates-pieces : (v last : ℕ) (link : List Bool) (fs : List Framed) → map piece (fates v last link fs) ≡ piecesOf v fs
+fates-pieces v last link [] = refl
+fates-pieces v last [] (f ∷ fs) =
+    when-pieces (ofChannel v f) (pieceOf f) (lost (pieceOf f)) (fates v last [] fs) refl
+    ∙ ap (λ (l : List rules.Piece). when (ofChannel v f) (pieceOf f) ++ l) (fates-pieces v last [] fs)
+fates-pieces v last (true ∷ link) (f ∷ fs) =
+    when-pieces (ofChannel v f) (pieceOf f) (got (last + 1) (pieceOf f)) (fates v (last + 1) link fs) refl
+    ∙ ap (λ (l : List rules.Piece). when (ofChannel v f) (pieceOf f) ++ l) (fates-pieces v (last + 1) link fs)
+fates-pieces v last (false ∷ link) (f ∷ fs) =
+    when-pieces (ofChannel v f) (pieceOf f) (lost (pieceOf f)) (fates v last link fs) refl
+    ∙ ap (λ (l : List rules.Piece). when (ofChannel v f) (pieceOf f) ++ l) (fates-pieces v last link fs)
+
+offered-lost : (b : Bool) (p : rules.Piece) (ss : List Fate) → offered (when b (lost p) ++ ss) ≡ offered ss
+offered-lost true p ss = refl
+offered-lost false p ss = refl
+
+offered-got : (b : Bool) (a : ℕ) (p : rules.Piece) (ss : List Fate) → offered (when b (got a p) ++ ss) ≡ when b (record { arrival = a; frame = p }) ++ offered ss
+offered-got true a p ss = refl
+offered-got false a p ss = refl
+
+short-when : (b : Bool) (p : rules.Piece) (ps : List rules.Piece) → length (p .octets) ≤ 251 → AllShort ps → AllShort (when b p ++ ps)
+short-when true p ps l s = (l, s)
+short-when false p ps l s = s
+
+-- ---- by demand 2, what is offered is what was sent and kept
+
+module _ (t : ℕ) where
+  all-short : (v : ℕ) (fs : List Framed) → AllWellFormed t fs → AllShort (piecesOf v fs)
+  all-short v [] w = tt
+  all-short v (f ∷ fs) w =
+      let r = reads-back (f .fields) t (f .«data») (f .time) (w .0) in
+      let a = accepts t (octetsOf t f) (f .fields) (r .fields) in
+      short-when (ofChannel v f) (pieceOf f) (piecesOf v fs) (omega (arith, a .few, a .«data», ap length (r .«data»))) (all-short v fs (w .1))
+
+  offer-is : (v a : ℕ) (f : Framed) → ReadBack (f .fields) t (f .«data») (f .time)
+      → offerOf v a (octetsOf t f) (readFrame t (octetsOf t f)) ≡ when (ofChannel v f) (record { arrival = a; frame = pieceOf f })
+  offer-is v a f r =
+      ap (offerOf v a (octetsOf t f)) (r .fields)
+      ∙ ap (λ (d : List ℕ). when (ofChannel v f) (offer d)) (r .«data»)
+    where
+      offer : List ℕ → Offer
+      offer d = record { arrival = a; frame = record { count = f .fields .count .0; pointer = f .fields .pointer; octets = d } }
+
+  offers-fates : (v last : ℕ) (link : List Bool) (fs : List Framed) → AllWellFormed t fs → last + length (kept link fs) ≤ 4294967295
+      → offersOf t v last (map (octetsOf t) (kept link fs)) ≡ offered (fates v last link fs)
+  offers-fates v last [] [] w n = refl
+  offers-fates v last (k ∷ link) [] w n = refl
+  offers-fates v last [] (f ∷ fs) w n =
+      offers-fates v last [] fs (w .1) n ∙ sym (offered-lost (ofChannel v f) (pieceOf f) (fates v last [] fs))
+  offers-fates v last (false ∷ link) (f ∷ fs) w n =
+      offers-fates v last link fs (w .1) n ∙ sym (offered-lost (ofChannel v f) (pieceOf f) (fates v last link fs))
+  offers-fates v last (true ∷ link) (f ∷ fs) w n =
+      let more : eqb last 4294967295 ≡ false = ne-eqb last 4294967295 (λ e. omega arith) in
+      let r = reads-back (f .fields) t (f .«data») (f .time) (w .0) in
+      sym (passed (eqb last 4294967295) [] _ _ more refl)
+      ∙ ap (λ (l : List Offer). l ++ offersOf t v (last + 1) (map (octetsOf t) (kept link fs))) (offer-is v (last + 1) f r)
+      ∙ ap (λ (l : List Offer). when (ofChannel v f) (record { arrival = last + 1; frame = pieceOf f }) ++ l)
+      (offers-fates v (last + 1) link fs (w .1) (omega arith))
+      ∙ sym (offered-got (ofChannel v f) (last + 1) (pieceOf f) (fates v (last + 1) link fs))
+
+-- ---- from the opening on
+
+opening-is : (t last : ℕ) → t ≤ 8 → opening t last .session ≡ opened t last
+unfolding opening pick
+opening-is t last l = rw (le-ltb 8 t l)
+
+pub opened-reached : (t last : ℕ) → t ≤ 8 → Reached (opened t last)
+opened-reached t last k = subst Reached (opening-is t last k) (opening-reached t last)
+
+pub opened-runs : (t last : ℕ) → t ≤ 8 → (o : Opened) → Opens t last o → (calls : List Call) → Runs (o .session) calls → Runs (opened t last) calls
+opened-runs t last k o h calls w = subst (λ (z : Session). Runs z calls) (h .session ∙ opening-is t last k) w
+
+-- a run from an opening, for channel v
+pub from-opening : (t last v : ℕ) → t ≤ 8 → v < 8 → (o : Opened) → Opens t last o → (calls : List Call) → Runs (o .session) calls → Room calls
+    → reportsOf v calls ≡ run rules.fresh (offersOf t v last (map frameOf calls))
+from-opening t last v k l o h calls w room =
+    projects t v calls (opened t last) (record { reached = opened-reached t last k; time = refl; there = l })
+    (opened-runs t last k o h calls w) room
+    ∙ ap (λ (c : rules.Channel). run c (offersOf t v last (map frameOf calls))) (fresh-viewed v l)
+
+pub independent : Independent
+independent t last last′ v o o′ calls calls′ k l h w room h′ w′ room′ e =
+    from-opening t last v k l o h calls w room
+    ∙ ap (run rules.fresh) e
+    ∙ sym (from-opening t last′ v k l o′ h′ calls′ w′ room′)
+
+pub demand-3 : Demand3
+demand-3 r v l =
+    let ss : List Fate = fates v (r .last) (r .link) (r .frames) in
+    let s : Stream v (r .frames) = r .sender .streams v l in
+    let same : reportsOf v (r .calls) ≡ run rules.fresh (offered ss) =
+    from-opening (r .t) (r .last) v (r .timeSize) l (r .opened) (r .opens) (r .calls) (r .runs) (r .room)
+    ∙ ap (λ (xs : List (List ℕ)). run rules.fresh (offersOf (r .t) v (r .last) xs)) (r .offers)
+    ∙ ap (run rules.fresh) (offers-fates (r .t) v (r .last) (r .link) (r .frames) (r .sender .wellFormed) (r .numbers)) in
+    let pieces : map piece ss ≡ piecesOf v (r .frames) = fates-pieces v (r .last) (r .link) (r .frames) in
+    subst (Delivered (s .packets) ss) (sym same)
+    (delivery (s .packets) (s .choices) (s .first) ss (s .good) (s .small) (pieces ∙ s .sent)
+    (subst AllShort (sym pieces) (all-short (r .t) v (r .frames) (r .sender .wellFormed)))
+    (r .gaps v l))

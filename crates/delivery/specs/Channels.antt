@@ -1,0 +1,46 @@
+-- 8. One channel by itself: the frames that it is offered under their arrival numbers, and what the rules say of them.
+use Prim.Native.Nat.{ℕ, _+_}
+use mathlib.Core.List.{List, [], _∷_, _++_}
+use mathlib.Core.Bool.{_&&_}
+use lib.Dec.{eqb}
+use Rattle.octets.specs.Pick.{pick}
+use Rattle.answer.specs.Told.{Told}
+use Rattle.frame.specs.declared.Frame.{Frame}
+use Rattle.frame.specs.Frame.{readFrame, dataOf}
+use Rattle.rules.specs.Channel.{Piece, Channel, Answer, step}
+use Rattle.session.specs.Step.{pieceOf}
+use Rattle.delivery.specs.Sender.{when}
+use Rattle.delivery.specs.Expected.{Fate, lost, got}
+use Rattle.delivery.specs.Delivered.{Report}
+
+pub record Offer : Type 0 where
+  pub arrival : ℕ
+  pub frame : Piece
+
+-- The frames that arrived.
+abbrev pub offered : List Fate → List Offer
+offered [] = []
+offered (lost f ∷ ss) = offered ss
+offered (got a f ∷ ss) = record { arrival = a; frame = f } ∷ offered ss
+
+abbrev pub report : ℕ → Answer → Report
+report a r = record { arrival = a; lost = r .lost; packets = r .packets }
+
+-- What comes of a channel's frames, where `by` says what comes of one.
+abbrev pub runBy : (ℕ → Channel → Piece → Answer) → Channel → List Offer → List Report
+runBy by c [] = []
+runBy by c (o ∷ os) = report (o .arrival) (by (o .arrival) c (o .frame)) ∷ runBy by (by (o .arrival) c (o .frame) .next) os
+
+-- By rules 1 to 5.
+abbrev pub run : Channel → List Offer → List Report
+run c os = runBy step c os
+
+-- What of frames offered to a session of this t, the last arrival number used being n, is for channel v: those that the frame reader
+-- accepts for it, under their arrival numbers. Once 4,294,967,295 is used, no frame gets a number.
+abbrev pub offerOf : ℕ → ℕ → List ℕ → Told Frame → List Offer
+offerOf v a frame r =
+    when (r .accepted && eqb (r .fields .channel) v) (record { arrival = a; frame = pieceOf (r .fields) (dataOf (r .fields) frame) })
+
+abbrev pub offersOf : ℕ → ℕ → ℕ → List (List ℕ) → List Offer
+offersOf t v n [] = []
+offersOf t v n (x ∷ xs) = pick (eqb n 4294967295) [] (offerOf v (n + 1) x (readFrame t x) ++ offersOf t v (n + 1) xs)

@@ -1,0 +1,12 @@
+pub mod Stream
+pub mod Sender
+pub mod Link
+pub mod Expected
+pub mod Delivered
+pub mod Run
+pub mod Demand
+pub mod Channels
+pub mod Further
+pub mod Corners
+pub mod Shams
+pub mod Witness

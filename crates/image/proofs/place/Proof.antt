@@ -1,0 +1,59 @@
+-- `image::place` meets its contract.
+use mathlib.Core.Path.{sym, ap, _∙_}
+use mathlib.Core.Bool.{Bool}
+use lib.ListN.{length}
+use lib.Dec.{ltb}
+use borrow.Author.Tests.{eq-eqb, ne-eqb, ltb-false}
+use Rattle.octets.proofs.Choices.{picked, passed}
+use Rattle.octets.proofs.Tests.{or-left, or-right}
+use Rattle.report.specs.Report.{told}
+use Rattle.image.specs.Placing.{after}
+use Rattle.image.proofs.Brings.{fits}
+use Rattle.image.proofs.Brought.{report-accepted, report-refused}
+use borrow.Author.Needs.{needs}
+use Rattle.image.proofs.place.Statement.{statement}
+use Rattle.image.proofs.place.Tie as tie
+
+returns : tie.Need-returns
+unfolding after
+returns c = picked _ _ _ (c .if1 .taken)
+
+returns-2 : tie.Need-returns-2
+unfolding after
+returns-2 c = passed _ _ _ _ (c .before .if1 .left) (picked _ _ _ (eq-eqb _ _ (c .if2 .taken)))
+
+bring-requires : tie.Need-bring-requires
+bring-requires c κs =
+    let m = c .before .before .before in
+    let f = m .before .before .before .before .if1 .left in
+    let a = m .before .before .before .before .before .before .before .before .args in
+    let short : Bool = ltb (length (a .image .now)) 22560 in
+    let few : Bool = ltb (length (a .lines .now)) 120 in
+    record {
+      fits = fits _ _ (sym (m .before .before .read .ensures) ∙ ap told (m .report .given .1));
+      image = ltb-false _ _ (or-left short few f);
+      lines = ltb-false _ _ (or-right short few f);
+    }
+
+returns-3 : tie.Need-returns-3
+unfolding after
+returns-3 c =
+    let m = c .before .before .before .before .before .before .before .before in
+    let t = m .before .before .before in
+    passed _ _ _ _ (t .before .if1 .left)
+    (passed _ _ _ _ (ne-eqb _ _ (t .if2 .left))
+    (report-accepted _ _ _ _ (m .before .before .read .ensures) (m .report .given .1) (c .before .before .before .before .bring .ensures)))
+
+returns-4 : tie.Need-returns-4
+unfolding after
+returns-4 c =
+    let t = c .before .before .before .before in
+    passed _ _ _ _ (t .before .if1 .left)
+    (passed _ _ _ _ (ne-eqb _ _ (t .if2 .left)) (report-refused _ _ _ _ (c .before .before .before .read .ensures) (c .before .n .given .1)))
+
+pub place-spec : {M : Type 1} → statement M
+place-spec =
+    tie.close
+    (tie.spec
+    returns returns-2 (λ c κs. search needs) (λ c. search needs) bring-requires (λ c. search needs)
+    (λ c. search needs) (λ c. search needs) returns-3 returns-4)

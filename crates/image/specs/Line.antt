@@ -1,0 +1,61 @@
+-- Document 01, 'Image and sequence': what placing one line does to an image and its list of line numbers.
+use Prim.Native.Nat.{ℕ, min, _*_, _≤_, _<_}
+use mathlib.Core.Path.{_≡_}
+use mathlib.Core.Bool.{Bool, true, false, not, _&&_}
+use mathlib.Core.List.{List, [], _∷_}
+use lib.ListN.{length, set}
+use lib.Dec.{eqb}
+use Rattle.octets.specs.Numbers.{at}
+use Rattle.octets.specs.Parts.{part, overlay}
+use Rattle.octets.specs.Pick.{pick}
+
+-- The pixels of an image, and for each line its number: 0 for "not received", else an arrival number.
+pub record Image : Type 0 where
+  pub pixels : List ℕ
+  pub lines : List ℕ
+
+-- A line to be placed: which, its 188 pixels, and its arrival number.
+pub record Line : Type 0 where
+  pub line : ℕ
+  pub pixels : List ℕ
+  pub arrival : ℕ
+
+abbrev pub imageOf : List ℕ → List ℕ → Image
+imageOf pixels lines = record { pixels = pixels; lines = lines }
+
+abbrev pub lineOf : ℕ → List ℕ → ℕ → Line
+lineOf line pixels arrival = record { line = line; pixels = pixels; arrival = arrival }
+
+-- Line n goes to octets 188n to 188n + 187.
+abbrev pub start : ℕ → ℕ
+start n = 188 * n
+
+-- Whether two rows of pixels are equal.
+unfoldable pub same : List ℕ → List ℕ → Bool
+same [] [] = true
+same (x ∷ xs) (y ∷ ys) = eqb x y && same xs ys
+same (x ∷ xs) [] = false
+same [] (y ∷ ys) = false
+
+-- Refusal 42: line n is held, with other pixels.
+unfoldable pub heldOtherwise : Image → ℕ → List ℕ → Bool
+heldOtherwise image n pixels = not (eqb (at (image .lines) n) 0) && not (same (part (image .pixels) (start n) 188) pixels)
+
+-- The line's number: the arrival number; of a line that is held, the smaller of the two.
+unfoldable pub number : ℕ → ℕ → ℕ
+number held arrival = pick (eqb held 0) arrival (min arrival held)
+
+-- What placing an accepted line leaves.
+abbrev pub placed : Image → Line → Image
+placed image l =
+    record {
+      pixels = overlay (image .pixels) (start (l .line)) (l .pixels);
+      lines = set (image .lines) (l .line) (number (at (image .lines) (l .line)) (l .arrival));
+    }
+
+-- A line that has its place: 188 pixels, in an image of 120 such lines with a list of as many numbers.
+pub record Fits (i : Image) (l : Line) : Type 0 where
+  pub line : l .line < 120
+  pub pixels : length (l .pixels) ≡ 188
+  pub image : 22560 ≤ length (i .pixels)
+  pub lines : 120 ≤ length (i .lines)

@@ -1,0 +1,73 @@
+-- Document 01, 'Image and sequence': placing, with its refusals.
+use Prim.Native.Nat.{ℕ, _≤_}
+use mathlib.Core.Path.{_≡_}
+use mathlib.Core.Bool.{not, _||_}
+use mathlib.Core.List.{List}
+use lib.ListN.{length}
+use lib.Dec.{ltb, eqb}
+use Rattle.octets.specs.Pick.{pick}
+use Rattle.answer.specs.Told.{Told, accept, refuse}
+use Rattle.answer.specs.Refusals.{imageShort, noArrival, notLine, imageOther, lineHeld}
+use Rattle.report.specs.Report.{readReport, pixelsOf}
+use Rattle.report.specs.declared.Report.{Report}
+use Rattle.report.specs.declared.Content.{Content}
+use Rattle.report.specs.declared.Content.the-variants as content
+use Rattle.image.specs.Line.{Image, Line, imageOf, lineOf, heldOtherwise, placed}
+use Rattle.image.specs.declared.Placed.{Placed}
+use Rattle.image.specs.declared.Placed.the-variants as placed
+
+-- An answer tells the line, or the refusal and 0.
+abbrev pub told : Placed → Told ℕ
+told (placed.Line n) = accept n
+told (placed.Refused n) = refuse 0 n
+
+-- What the call answers, and the image with its line numbers as it leaves them.
+pub record Outcome : Type 0 where
+  pub answer : Told ℕ
+  pub image : Image
+
+abbrev pub outcome : Placed → List ℕ → List ℕ → Outcome
+outcome answer pixels lines = record { answer = told answer; image = imageOf pixels lines }
+
+-- A refusal: its number, and nothing lent changes.
+abbrev pub refused : ℕ → Image → Outcome
+refused n image = record { answer = refuse 0 n; image = image }
+
+-- Refusal 42, else the line is placed.
+unfoldable pub placing : Image → Line → Outcome
+placing image l =
+    pick (heldOtherwise image (l .line) (l .pixels)) (refused lineHeld image) (record { answer = accept (l .line); image = placed image l })
+
+-- What a packet's report brings: 33 for another report than a line, 41 for a line of another image.
+unfoldable pub brought : List ℕ → ℕ → ℕ → Image → Content → Outcome
+brought packet arrival wanted image (content.Line l) =
+    pick (not (eqb (l .image) wanted)) (refused imageOther image) (placing image (lineOf (l .line) (pixelsOf packet) arrival))
+brought packet arrival wanted image (content.Success c) = refused notLine image
+brought packet arrival wanted image (content.Failure c) = refused notLine image
+brought packet arrival wanted image (content.Housekeeping c) = refused notLine image
+brought packet arrival wanted image (content.Available c) = refused notLine image
+
+-- What a report's reader gave for it: its refusals 20 to 22, 30, 31 and 32 first.
+unfoldable pub reported : List ℕ → ℕ → ℕ → Image → Told Report → Outcome
+reported packet arrival wanted image r =
+    pick (r .accepted) (brought packet arrival wanted image (r .fields .content)) (refused (r .refusal) image)
+
+-- 40, 43, then the report's 20 to 22, 30, 31 and 32, then 33, 41, 42. No packet has both 33 and 32: the one is (128,7), the other isn't.
+unfoldable pub after : List ℕ → ℕ → ℕ → Image → Outcome
+after packet arrival wanted image =
+    pick (ltb (length (image .pixels)) 22560 || ltb (length (image .lines)) 120) (refused imageShort image)
+    (pick (eqb arrival 0) (refused noArrival image) (reported packet arrival wanted image (readReport packet)))
+
+-- A content that, if it is a line, has its place in the image.
+abbrev pub LineFits : Content → List ℕ → Type 0
+LineFits (content.Line l) packet = (l .line ≤ 119) × (length (pixelsOf packet) ≡ 188)
+LineFits (content.Success c) packet = Unit {0}
+LineFits (content.Failure c) packet = Unit {0}
+LineFits (content.Housekeeping c) packet = Unit {0}
+LineFits (content.Available c) packet = Unit {0}
+
+-- Such a content, with an image of 120 lines and a list of as many numbers.
+pub record Brings (c : Content) (packet : List ℕ) (i : Image) : Type 0 where
+  pub fits : LineFits c packet
+  pub image : 22560 ≤ length (i .pixels)
+  pub lines : 120 ≤ length (i .lines)

@@ -1,0 +1,31 @@
+-- The worked cases, by computing.
+use mathlib.Core.Path.{refl}
+use Rattle.rules.specs.Channel.{status, push, placeAfter, lengthHolds, enter, follow, lostSince, step}
+use Rattle.rules.specs.Bounds.{heldWrong}
+use Rattle.rules.specs.BothSides.{BothSides}
+
+pub both-sides : BothSides
+unfolding status push placeAfter lengthHolds enter follow lostSince step heldWrong
+both-sides = record {
+  split = refl;
+  gap = refl;
+  most = refl;
+  raw = refl;
+  pointer = refl;
+  short = refl;
+  long = refl;
+  skip = refl;
+  rest = refl;
+  left = refl;
+  over = refl;
+  greatest = refl;
+  sixteen = refl;
+  part = refl;
+  all = refl;
+  known = refl;
+  unknown = refl;
+  full = refl;
+  beyond = refl;
+  idle = refl;
+  stale = refl;
+}

@@ -1,0 +1,42 @@
+-- Document 01, 'Image and sequence': the sequence gap over a list of one number an APID, 0 for none yet, else last count + 1.
+use Prim.Native.Nat.{ℕ, _+_, _-_}
+use mathlib.Core.Bool.{_||_}
+use mathlib.Core.List.{List}
+use lib.ListN.{length, set}
+use lib.Dec.{ltb, eqb}
+use Rattle.octets.specs.Numbers.{at}
+use Rattle.octets.specs.Pick.{pick}
+use Rattle.answer.specs.Told.{Told, accept, refuse}
+use Rattle.answer.specs.Refusals.{listShort, entry, countRange}
+use Rattle.counts.specs.Gap.{gap}
+use Rattle.sequence.specs.declared.Gap.{Gap}
+use Rattle.sequence.specs.declared.Gap.the-variants.{Missing, Refused}
+
+-- An answer tells how many are missing, or the refusal and 0.
+abbrev pub told : Gap → Told ℕ
+told (Missing n) = accept n
+told (Refused n) = refuse 0 n
+
+-- Missing: (count - last - 1) modulo 16,384, 0 at the first.
+unfoldable pub since : ℕ → ℕ → Told ℕ
+since held count = pick (eqb held 0) (accept 0) (accept (gap 16384 count (held - 1)))
+
+-- What the call answers, and the list as it leaves it.
+pub record Outcome : Type 0 where
+  pub answer : Told ℕ
+  pub list : List ℕ
+
+abbrev pub outcome : Gap → List ℕ → Outcome
+outcome answer list = record { answer = told answer; list = list }
+
+-- A refusal: its number, and the list stays.
+abbrev pub refused : ℕ → List ℕ → Outcome
+refused n list = record { answer = refuse 0 n; list = list }
+
+-- Refusals 44, 46, 45, and the list stays; else the gap, and that APID's entry becomes count + 1.
+unfoldable pub after : ℕ → ℕ → List ℕ → Outcome
+after apid count list =
+    pick (ltb (length list) 2048) (refused listShort list)
+    (pick (ltb 2047 apid || ltb 16383 count) (refused countRange list)
+    (pick (ltb 16384 (at list apid)) (refused entry list)
+    (record { answer = since (at list apid) count; list = set list apid (count + 1) })))

@@ -1,0 +1,39 @@
+// The sequence gap of each APID over a lent list of its last counts.
+use counts::SequenceCount;
+ghost use mathlib.Core.Path.{_≡_};
+ghost use Rattle.sequence.specs.Sequence.{told, since, outcome, after};
+
+// What the source sequence count of one APID tells: how many packets are missing, or the refusal's number.
+pub enum Gap {
+    Missing(u16),
+    Refused(u16),
+}
+
+// The gap that a count leaves after an entry of the list: none at the first.
+fn since(count: SequenceCount, entry: u16) -> Gap
+    ensures { λ r. ⌜ told r ≡ since entry (count .0) ⌝ }
+{
+    if entry == 0 {
+        return Gap::Missing(0);
+    }
+    Gap::Missing(count.missing(SequenceCount(entry - 1)))
+}
+
+// How many of the APID's packets are missing before this one; the APID's entry becomes count + 1. All else stays, and on a refusal the entry too.
+pub fn missing(apid: u16, count: SequenceCount, list: &mut [u16]) -> Gap
+    ensures { λ r. ⌜ outcome r (now (list .exit)) ≡ after apid (count .0) (now (list .entry)) ⌝ }
+{
+    if list.len() < 2048 {
+        return Gap::Refused(answer::LIST_SHORT);
+    }
+    if (2047 < apid) | (16383 < count.0) {
+        return Gap::Refused(answer::COUNT_RANGE);
+    }
+    let place = apid as usize;
+    let entry = list[place];
+    if 16384 < entry {
+        return Gap::Refused(answer::ENTRY);
+    }
+    list[place] = count.0 + 1;
+    since(count, entry)
+}
