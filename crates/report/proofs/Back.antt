@@ -32,7 +32,6 @@ use Rattle.report.specs.declared.table.Pair.{Pair}
 use Rattle.report.specs.declared.table.Found.the-variants as found
 use Rattle.report.specs.declared.Content.{Content}
 use Rattle.report.specs.declared.Content.the-variants.{Success, Failure, Housekeeping, Available, Line}
-use Rattle.report.specs.declared.Report.{Report}
 
 -- c is what the reader makes of the packet s, whose fields are p
 record Read (p : Packet) (s : List ℕ) (c : Content) : Type 0 where
