@@ -10,18 +10,18 @@ use lib.Dec.{eqb}
 use borrow.Author.Tests.{eq-eqb, ne-eqb, eqb-true}
 use Rattle.octets.specs.Numbers.{at}
 use Rattle.octets.proofs.Tests.{and-true-left, and-true-right}
-use Rattle.image.specs.Line.{same}
+use Rattle.image.specs.Line.{same, SameIsEqual}
 
 and-no : (b : Bool) → (b && false) ≡ false
 and-no true = refl
 and-no false = refl
 
-pub same-alike : (s : List ℕ) → same s s ≡ true
+same-alike : (s : List ℕ) → same s s ≡ true
 unfolding same
 same-alike [] = refl
 same-alike (x ∷ xs) = simp (eq-eqb x x refl) (same-alike xs)
 
-pub same-equal : (s t : List ℕ) → same s t ≡ true → s ≡ t
+same-equal : (s t : List ℕ) → same s t ≡ true → s ≡ t
 unfolding same
 same-equal [] [] h = refl
 same-equal (x ∷ xs) (y ∷ ys) h =
@@ -30,6 +30,9 @@ same-equal (x ∷ xs) (y ∷ ys) h =
     cc
 same-equal (x ∷ xs) [] h = absurd (false≢true h)
 same-equal [] (y ∷ ys) h = absurd (false≢true h)
+
+pub same-is-equal : SameIsEqual
+same-is-equal s t = (same-equal s t, λ e. rw e (same-alike t))
 
 -- rows of two lengths differ
 pub same-length : (s t : List ℕ) → (length s ≡ length t → ⊥) → same s t ≡ false

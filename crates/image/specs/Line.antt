@@ -37,6 +37,9 @@ same (x ∷ xs) (y ∷ ys) = eqb x y && same xs ys
 same (x ∷ xs) [] = false
 same [] (y ∷ ys) = false
 
+abbrev pub SameIsEqual : Type 0
+SameIsEqual = (s t : List ℕ) → (same s t ≡ true → s ≡ t) × (s ≡ t → same s t ≡ true)
+
 -- Refusal 42: line n is held, with other pixels.
 unfoldable pub heldOtherwise : Image → ℕ → List ℕ → Bool
 heldOtherwise image n pixels = not (eqb (at (image .lines) n) 0) && not (same (part (image .pixels) (start n) 188) pixels)

@@ -14,12 +14,12 @@ use Rattle.report.specs.declared.Content.{Content}
 use Rattle.report.specs.declared.Content.the-variants as content
 use Rattle.image.specs.Line.{Image, Line, imageOf, lineOf, heldOtherwise, placed}
 use Rattle.image.specs.declared.Placed.{Placed}
-use Rattle.image.specs.declared.Placed.the-variants as placed
+use Rattle.image.specs.declared.Placed.the-variants as answers
 
 -- An answer tells the line, or the refusal and 0.
 abbrev pub told : Placed → Told ℕ
-told (placed.Line n) = accept n
-told (placed.Refused n) = refuse 0 n
+told (answers.Line n) = accept n
+told (answers.Refused n) = refuse 0 n
 
 -- What the call answers, and the image with its line numbers as it leaves them.
 pub record Outcome : Type 0 where
@@ -52,7 +52,7 @@ unfoldable pub reported : List ℕ → ℕ → ℕ → Image → Told Report →
 reported packet arrival wanted image r =
     pick (r .accepted) (brought packet arrival wanted image (r .fields .content)) (refused (r .refusal) image)
 
--- 40, 43, then the report's 20 to 22, 30, 31 and 32, then 33, 41, 42. No packet has both 33 and 32: the one is (128,7), the other isn't.
+-- 40, 43, then the report's 20 to 22, 30, 31 and 32, then 33, 41, 42. No packet has both 33 and 32: of 33 it isn't (128,7), of 32 it is.
 unfoldable pub after : List ℕ → ℕ → ℕ → Image → Outcome
 after packet arrival wanted image =
     pick (ltb (length (image .pixels)) 22560 || ltb (length (image .lines)) 120) (refused imageShort image)

@@ -12,7 +12,7 @@ use Rattle.octets.specs.Numbers.{at}
 use Rattle.octets.specs.Pick.{pick}
 use Rattle.octets.proofs.Choices.{not-picked}
 use Rattle.answer.specs.Told.{Told, accept, refuse}
-use Rattle.answer.specs.Refusals.{fieldRange, outputShort}
+use Rattle.answer.specs.Refusals.{outputShort}
 use Rattle.answer.specs.Writer.{told, writing, Wrote}
 use Rattle.answer.specs.declared.Written.{Written}
 use Rattle.answer.specs.declared.Written.the-variants.{Length}

@@ -8,7 +8,7 @@ use native.Mathlib.Nat.{add-assoc, pow-suc, mod-eq-of-lt}
 use mathlib.Core.Bool.{Bool, true, false}
 use lib.Dec.{ltb}
 use lib.ListN.{length, getD, set, take, drop, length-append, length-drop, drop-of-length-le}
-use lib.Seq.{take-suc, drop-cons, set-at, take-at, drop-at, length-take-le, paste-zero}
+use lib.Seq.{take-suc, drop-cons, set-at, drop-at, length-take-le, paste-zero}
 use borrow.Author.Tests.{lt-ltb, le-ltb, ltb-true}
 use Rattle.octets.specs.Pick.{pick}
 use Rattle.octets.specs.Parts.{overlay}

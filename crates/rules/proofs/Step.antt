@@ -1,4 +1,4 @@
--- Every packet handed out carries the frame's arrival number.
+-- What each field of a step is; every packet handed out carries the frame's arrival number.
 use mathlib.Core.Path.{_≡_, refl}
 use mathlib.Core.List.{List, [], _∷_, _++_}
 use mathlib.Core.Bool.{Bool, true, false, _&&_, cond}
@@ -6,6 +6,7 @@ use Prim.Native.Nat.{ℕ, zero, suc}
 use lib.ListN.{drop}
 use lib.Dec.{eqb}
 use Rattle.rules.specs.Channel.{Held, nothing, grown, Handed, given, Status, unfinished, whole, wrong, status, Work, holding, settle, push, feed, fits, enter, follow, lostSince, afterLoss, step}
+use Rattle.rules.specs.Step.{StepFields}
 use Rattle.rules.specs.Bounds.{Under, StepArrivals}
 
 under-more : (a : ℕ) (ps : List Handed) (p : Handed) → Under a ps → p .arrival ≡ a → Under a (ps ++ p ∷ [])
@@ -42,6 +43,10 @@ loss-under : (a n : ℕ) (b : Bool) (h : Held) (pointer : ℕ) (xs : List ℕ) �
 loss-under a zero b h pointer xs = follow-under a b h pointer xs
 loss-under a (suc n) b h pointer xs = follow-under a false nothing pointer xs
 
-pub step-arrivals : StepArrivals
+pub step-fields : StepFields
 unfolding step
-step-arrivals a c f = loss-under a (lostSince (c .last) (f .count)) (c .inStep) (c .held) (f .pointer) (f .octets)
+step-fields a c f = record { lost = refl; packets = refl; last = refl; inStep = refl; held = refl }
+
+pub step-arrivals : StepArrivals
+step-arrivals a c f =
+    rw (step-fields a c f .packets) (loss-under a (lostSince (c .last) (f .count)) (c .inStep) (c .held) (f .pointer) (f .octets))

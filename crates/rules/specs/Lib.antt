@@ -3,3 +3,4 @@ pub mod Packets
 pub mod Bounds
 pub mod Cutting
 pub mod BothSides
+pub mod Step

@@ -7,10 +7,6 @@ use native.Mathlib.Omega.{arith}
 use borrow.Author.Needs.{needs}
 use Rattle.lister.proofs.bad_line.Statement.{statement}
 use Rattle.lister.proofs.bad_line.Tie as tie
-use Rattle.lister.proofs.bad_line.Reads as reads
-use Rattle.lister.proofs.bad_line.Lts as lts
-use Rattle.lister.proofs.behind.Reads as behind-reads
-use Rattle.recording.proofs.bad_line.Reads as bad-line-reads
 
 -- src/lib.rt:258:9
 bad-line-requires : tie.Need-bad-line-requires

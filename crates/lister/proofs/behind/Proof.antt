@@ -2,8 +2,6 @@ use native.Mathlib.Omega.{arith}
 use borrow.Author.Needs.{needs}
 use Rattle.lister.proofs.behind.Statement.{statement}
 use Rattle.lister.proofs.behind.Tie as tie
-use Rattle.lister.proofs.behind.Reads as reads
-use Rattle.lister.proofs.behind.Lts as lts
 
 -- src/lib.rt:269:25
 enum-known-written : tie.Need-enum-known-written

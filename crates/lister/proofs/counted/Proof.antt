@@ -4,11 +4,6 @@ use native.Mathlib.Omega.{arith}
 use borrow.Author.Needs.{needs}
 use Rattle.lister.proofs.counted.Statement.{statement}
 use Rattle.lister.proofs.counted.Tie as tie
-use Rattle.lister.proofs.counted.Reads as reads
-use Rattle.lister.proofs.counted.Lts as lts
-use Rattle.lister.proofs.frames.Reads as frames-reads
-use Rattle.lister.proofs.more.Reads as more-reads
-use Rattle.lister.proofs.waited.Reads as waited-reads
 
 -- src/lib.rt:112:9
 waited-requires : tie.Need-waited-requires

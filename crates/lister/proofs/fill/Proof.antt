@@ -1,9 +1,7 @@
-use Prim.Native.Nat.{ℕ, _+_, _-_, _≤_, _<_}
-use mathlib.Core.Path.{_≡_, refl, sym, ap, _∙_}
-use mathlib.Core.List.{List}
+use Prim.Native.Nat.{_-_, _≤_}
+use mathlib.Core.Path.{_≡_, refl, _∙_}
 use native.Mathlib.Omega.{arith}
-use lib.ListN.{length, getD, set, take, drop, length-set}
-use denote.Ref.{now}
+use lib.ListN.{length, take}
 use Rattle.lister.proofs.Moves.{kept-front}
 use Rattle.lister.proofs.fill.Statement.{statement}
 use Rattle.lister.proofs.fill.Tie as tie

@@ -1,13 +1,8 @@
 use mathlib.Core.Path.{sym}
 use lib.Seq.{length-take-le}
-use native.Mathlib.Omega.{arith}
 use borrow.Author.Needs.{needs}
 use Rattle.lister.proofs.flushed.Statement.{statement}
 use Rattle.lister.proofs.flushed.Tie as tie
-use Rattle.lister.proofs.flushed.Reads as reads
-use Rattle.lister.proofs.flushed.Lts as lts
-use Rattle.io.proofs.write_all.Reads as write-all-reads
-use Rattle.os.proofs.fail.Reads as fail-reads
 
 -- src/lib.rt:317:42
 slice-aggregate-write-all : tie.Need-slice-aggregate-write-all

@@ -3,14 +3,9 @@ use denote.Ref.{now}
 use Rattle.recording.specs.Sections.{told}
 use Rattle.lister.specs.declared.Kind.the-variants as Kinds
 use Rattle.lister.proofs.Places.{within-part, frame-within}
-use native.Mathlib.Omega.{arith}
 use borrow.Author.Needs.{needs}
 use Rattle.lister.proofs.framed.Statement.{statement}
 use Rattle.lister.proofs.framed.Tie as tie
-use Rattle.lister.proofs.framed.Reads as reads
-use Rattle.lister.proofs.framed.Lts as lts
-use Rattle.lister.proofs.waited.Reads as waited-reads
-use Rattle.recording.proofs.frame.Reads as frame-reads
 
 -- src/lib.rt:175:16
 sub-if1 : tie.Need-sub-if1

@@ -1,17 +1,12 @@
 use denote.Ref.{now}
 use borrow.Author.Tests.{not-false}
-use mathlib.Core.Path.{_≡_, refl, _∙_}
+use mathlib.Core.Path.{_≡_, _∙_}
 use lib.ListN.{length}
 use Rattle.lister.specs.Held.{Held}
 use native.Mathlib.Omega.{arith}
 use borrow.Author.Needs.{needs}
 use Rattle.lister.proofs.frames.Statement.{statement}
 use Rattle.lister.proofs.frames.Tie as tie
-use Rattle.lister.proofs.frames.Reads as reads
-use Rattle.lister.proofs.frames.Lts as lts
-use Rattle.lister.proofs.framed.Reads as framed-reads
-use Rattle.lister.proofs.lines.Reads as lines-reads
-use Rattle.session.proofs.Session.step.Reads as step-reads
 
 abbrev Inv-loop : tie.InvT-loop
 Inv-loop input₀ out₀ octets₀ lengths₀ count session₀ state₀ left₀ input out octets lengths session state left =

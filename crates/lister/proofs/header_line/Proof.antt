@@ -7,10 +7,6 @@ use native.Mathlib.Omega.{arith}
 use borrow.Author.Needs.{needs}
 use Rattle.lister.proofs.header_line.Statement.{statement}
 use Rattle.lister.proofs.header_line.Tie as tie
-use Rattle.lister.proofs.header_line.Reads as reads
-use Rattle.lister.proofs.header_line.Lts as lts
-use Rattle.lister.proofs.behind.Reads as behind-reads
-use Rattle.recording.proofs.header_line.Reads as header-line-reads
 
 -- src/lib.rt:250:9
 header-line-requires : tie.Need-header-line-requires

@@ -1,15 +1,9 @@
 use mathlib.Core.Path.{sym, ap, _∙_}
 use Rattle.recording.specs.Sections.{told}
 use Rattle.lister.proofs.Places.{settings-within, count-within, frame-within, sees-settings, sees-count, sees-frame}
-use native.Mathlib.Omega.{arith}
 use borrow.Author.Needs.{needs}
 use Rattle.lister.proofs.look.Statement.{statement}
 use Rattle.lister.proofs.look.Tie as tie
-use Rattle.lister.proofs.look.Reads as reads
-use Rattle.lister.proofs.look.Lts as lts
-use Rattle.recording.proofs.count.Reads as count-reads
-use Rattle.recording.proofs.frame.Reads as frame-reads
-use Rattle.recording.proofs.settings.Reads as settings-reads
 
 -- src/lib.rt:281:27
 enum-told : tie.Need-enum-told

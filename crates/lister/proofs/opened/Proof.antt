@@ -4,12 +4,6 @@ use native.Mathlib.Omega.{arith}
 use borrow.Author.Needs.{needs}
 use Rattle.lister.proofs.opened.Statement.{statement}
 use Rattle.lister.proofs.opened.Tie as tie
-use Rattle.lister.proofs.opened.Reads as reads
-use Rattle.lister.proofs.opened.Lts as lts
-use Rattle.lister.proofs.counted.Reads as counted-reads
-use Rattle.lister.proofs.header_line.Reads as header-line-reads
-use Rattle.lister.proofs.waited.Reads as waited-reads
-use Rattle.session.proofs.Session.open.Reads as open-reads
 
 -- src/lib.rt:90:9
 waited-requires : tie.Need-waited-requires

@@ -10,10 +10,6 @@ use native.Mathlib.Omega.{arith}
 use borrow.Author.Needs.{needs}
 use Rattle.lister.proofs.packet_line.Statement.{statement}
 use Rattle.lister.proofs.packet_line.Tie as tie
-use Rattle.lister.proofs.packet_line.Reads as reads
-use Rattle.lister.proofs.packet_line.Lts as lts
-use Rattle.lister.proofs.behind.Reads as behind-reads
-use Rattle.recording.proofs.packet_line.Reads as packet-line-reads
 
 -- src/lib.rt:242:42
 sub-packet-line : tie.Need-sub-packet-line
@@ -44,7 +40,7 @@ behind-requires c κs =
     let m : length ys ≡ length (take k (drop a xs)) = l .packet-line .kept .0 in (
       search needs,
       λ n e. let h : n ≤ length (take k (drop a xs)) = written-fits (l .packet-line .ensures) e in
-      omega (arith, length-append (take a xs) (ys ++ postOf a k xs), length-append ys (postOf a k xs), length-take-le a xs (s .pre)),
+          omega (arith, length-append (take a xs) (ys ++ postOf a k xs), length-append ys (postOf a k xs), length-take-le a xs (s .pre)),
     )
 
 -- src/lib.rt:238:1

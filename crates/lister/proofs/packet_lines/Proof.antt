@@ -1,15 +1,10 @@
-use Prim.Native.Nat.{ℕ, _*_, _-_, _≤_}
+use Prim.Native.Nat.{_*_, _-_, _≤_}
 use mathlib.Core.Path.{_≡_, refl, _∙_}
 use lib.ListN.{length}
 use native.Mathlib.Omega.{arith}
 use borrow.Author.Needs.{needs}
 use Rattle.lister.proofs.packet_lines.Statement.{statement}
 use Rattle.lister.proofs.packet_lines.Tie as tie
-use Rattle.lister.proofs.packet_lines.Reads as reads
-use Rattle.lister.proofs.packet_lines.Lts as lts
-use Rattle.lister.proofs.packet_line.Reads as packet-line-reads
-use Rattle.octets.proofs.part.Reads as part-reads
-use Rattle.packet.proofs.Packet.read.Reads as read-reads
 
 abbrev Inv-loop : tie.InvT-loop
 Inv-loop out₀ used arrival packets octets lengths next₀ from₀ i₀ out next from i = (next ≤ length out) × (length out ≡ length out₀) × (i ≤ packets) × (from ≤ 65535 * i)

@@ -1,8 +1,7 @@
 use Prim.Native.Nat.{ℕ, _+_, _-_, _≤_, _<_}
 use mathlib.Core.Path.{_≡_, refl, sym, ap, _∙_}
-use mathlib.Core.List.{List}
 use native.Mathlib.Omega.{arith}
-use lib.ListN.{length, getD, set, take, drop, length-set}
+use lib.ListN.{length, take, drop, length-set}
 use denote.Ref.{now}
 use Rattle.lister.proofs.Moves.{moved-more, rest-more}
 use Rattle.lister.proofs.shift.Statement.{statement}

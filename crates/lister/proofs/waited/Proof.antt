@@ -1,17 +1,11 @@
-use mathlib.Core.Path.{_≡_, refl, _∙_}
+use mathlib.Core.Path.{_≡_}
 use mathlib.Core.Bool.{false≢true}
 use lib.ListN.{length}
 use Rattle.lister.specs.Held.{Held}
 use Rattle.lister.proofs.Places.{within-part}
-use native.Mathlib.Omega.{arith}
 use borrow.Author.Needs.{needs}
 use Rattle.lister.proofs.waited.Statement.{statement}
 use Rattle.lister.proofs.waited.Tie as tie
-use Rattle.lister.proofs.waited.Reads as reads
-use Rattle.lister.proofs.waited.Lts as lts
-use Rattle.lister.proofs.flushed.Reads as flushed-reads
-use Rattle.lister.proofs.look.Reads as look-reads
-use Rattle.lister.proofs.more.Reads as more-reads
 
 abbrev Inv-loop : tie.InvT-loop
 Inv-loop input₀ out kind state₀ looks₀ input state looks = (length input ≡ length input₀) × Held state (length input) (length out)

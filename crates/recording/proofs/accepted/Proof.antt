@@ -6,10 +6,6 @@ use native.Mathlib.Omega.{arith}
 use borrow.Author.Needs.{needs}
 use Rattle.recording.proofs.accepted.Statement.{statement}
 use Rattle.recording.proofs.accepted.Tie as tie
-use Rattle.recording.proofs.accepted.Reads as reads
-use Rattle.recording.proofs.accepted.Lts as lts
-use Rattle.recording.proofs.letter.Reads as letter-reads
-use Rattle.recording.proofs.number.Reads as number-reads
 
 -- src/lib.rt:147:9
 number-requires : tie.Need-number-requires

@@ -5,10 +5,6 @@ use native.Mathlib.Omega.{arith}
 use borrow.Author.Needs.{needs}
 use Rattle.recording.proofs.answer_line.Statement.{statement}
 use Rattle.recording.proofs.answer_line.Tie as tie
-use Rattle.recording.proofs.answer_line.Reads as reads
-use Rattle.recording.proofs.answer_line.Lts as lts
-use Rattle.recording.proofs.fit.Reads as fit-reads
-use Rattle.recording.proofs.lay_answer.Reads as lay-answer-reads
 
 -- src/lib.rt:250:32
 lay-answer-requires : tie.Need-lay-answer-requires

@@ -1,11 +1,7 @@
 use Rattle.recording.proofs.Sections.{count-short, count-whole}
-use native.Mathlib.Omega.{arith}
 use borrow.Author.Needs.{needs}
 use Rattle.recording.proofs.count.Statement.{statement}
 use Rattle.recording.proofs.count.Tie as tie
-use Rattle.recording.proofs.count.Reads as reads
-use Rattle.recording.proofs.count.Lts as lts
-use Rattle.octets.proofs.four.Reads as four-reads
 
 -- src/lib.rt:47:33
 sub-t4 : tie.Need-sub-t4

@@ -3,7 +3,7 @@ use mathlib.Core.List.{List}
 use denote.Ref.{now}
 use Rattle.octets.specs.Parts.{overlay}
 use Prim.Native.Nat.{ℕ, _≤_, _+_, _-_}
-use mathlib.Core.Path.{_≡_, refl, sym, ap, _∙_, subst}
+use mathlib.Core.Path.{_≡_, refl, ap, _∙_, subst}
 use lib.ListN.{length, drop, length-set}
 use Rattle.recording.specs.Text.{decimal}
 use Rattle.recording.proofs.Decimal.{lastDigits, Putting, none-put, one-put, decimal-last}
@@ -11,8 +11,6 @@ use native.Mathlib.Omega.{arith}
 use borrow.Author.Needs.{needs}
 use Rattle.recording.proofs.digits.Statement.{statement}
 use Rattle.recording.proofs.digits.Tie as tie
-use Rattle.recording.proofs.digits.Reads as reads
-use Rattle.recording.proofs.digits.Lts as lts
 
 abbrev Inv-loop : tie.InvT-loop
 Inv-loop out₀ at n k i₀ rest₀ out i rest = (i ≤ k) × (length out ≡ length out₀) × Putting (decimal n) out₀ at i rest out

@@ -5,13 +5,9 @@ use lib.ListN.{length}
 use denote.Ref.{now}
 use Rattle.octets.proofs.Placing.{put-first}
 use Rattle.answer.proofs.Writer.{refused-50, wrote}
-use native.Mathlib.Omega.{arith}
 use borrow.Author.Needs.{needs}
 use Rattle.recording.proofs.fit.Statement.{statement}
 use Rattle.recording.proofs.fit.Tie as tie
-use Rattle.recording.proofs.fit.Reads as reads
-use Rattle.recording.proofs.fit.Lts as lts
-use Rattle.octets.proofs.put.Reads as put-reads
 
 -- src/lib.rt:211:9
 returns : tie.Need-returns

@@ -1,11 +1,7 @@
 use Rattle.recording.proofs.Sections.{frame-cut, frame-long, frame-short, frame-whole}
-use native.Mathlib.Omega.{arith}
 use borrow.Author.Needs.{needs}
 use Rattle.recording.proofs.frame.Statement.{statement}
 use Rattle.recording.proofs.frame.Tie as tie
-use Rattle.recording.proofs.frame.Reads as reads
-use Rattle.recording.proofs.frame.Lts as lts
-use Rattle.octets.proofs.word.Reads as word-reads
 
 -- src/lib.rt:58:33
 sub-t5 : tie.Need-sub-t5

@@ -1,12 +1,7 @@
 use Rattle.recording.proofs.Lines.{accepted-line, refused-line}
-use native.Mathlib.Omega.{arith}
 use borrow.Author.Needs.{needs}
 use Rattle.recording.proofs.lay_answer.Statement.{statement}
 use Rattle.recording.proofs.lay_answer.Tie as tie
-use Rattle.recording.proofs.lay_answer.Reads as reads
-use Rattle.recording.proofs.lay_answer.Lts as lts
-use Rattle.recording.proofs.accepted.Reads as accepted-reads
-use Rattle.recording.proofs.refused.Reads as refused-reads
 
 -- src/lib.rt:241:13
 enum-known-answer : tie.Need-enum-known-answer

@@ -1,12 +1,7 @@
 use Rattle.recording.proofs.Lines.{taken-line, turned-away-line}
-use native.Mathlib.Omega.{arith}
 use borrow.Author.Needs.{needs}
 use Rattle.recording.proofs.lay_packet.Statement.{statement}
 use Rattle.recording.proofs.lay_packet.Tie as tie
-use Rattle.recording.proofs.lay_packet.Reads as reads
-use Rattle.recording.proofs.lay_packet.Lts as lts
-use Rattle.recording.proofs.taken.Reads as taken-reads
-use Rattle.recording.proofs.turned_away.Reads as turned-away-reads
 
 -- src/lib.rt:237:28
 enum-known-read : tie.Need-enum-known-read

@@ -7,8 +7,6 @@ use native.Mathlib.Omega.{arith}
 use borrow.Author.Needs.{needs}
 use Rattle.recording.proofs.letter.Statement.{statement}
 use Rattle.recording.proofs.letter.Tie as tie
-use Rattle.recording.proofs.letter.Reads as reads
-use Rattle.recording.proofs.letter.Lts as lts
 
 -- src/lib.rt:75:5
 slice-write-out : tie.Need-slice-write-out

@@ -10,10 +10,6 @@ use native.Mathlib.Omega.{arith}
 use borrow.Author.Needs.{needs}
 use Rattle.recording.proofs.number.Statement.{statement}
 use Rattle.recording.proofs.number.Tie as tie
-use Rattle.recording.proofs.number.Reads as reads
-use Rattle.recording.proofs.number.Lts as lts
-use Rattle.recording.proofs.digits.Reads as digits-reads
-use Rattle.recording.proofs.places.Reads as places-reads
 
 -- src/lib.rt:85:9
 places-requires : tie.Need-places-requires

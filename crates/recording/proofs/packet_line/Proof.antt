@@ -5,10 +5,6 @@ use native.Mathlib.Omega.{arith}
 use borrow.Author.Needs.{needs}
 use Rattle.recording.proofs.packet_line.Statement.{statement}
 use Rattle.recording.proofs.packet_line.Tie as tie
-use Rattle.recording.proofs.packet_line.Reads as reads
-use Rattle.recording.proofs.packet_line.Lts as lts
-use Rattle.recording.proofs.fit.Reads as fit-reads
-use Rattle.recording.proofs.lay_packet.Reads as lay-packet-reads
 
 -- src/lib.rt:250:32
 lay-packet-requires : tie.Need-lay-packet-requires

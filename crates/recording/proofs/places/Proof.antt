@@ -1,10 +1,7 @@
 use Rattle.recording.proofs.Decimal.{how-many}
-use native.Mathlib.Omega.{arith}
 use borrow.Author.Needs.{needs}
 use Rattle.recording.proofs.places.Statement.{statement}
 use Rattle.recording.proofs.places.Tie as tie
-use Rattle.recording.proofs.places.Reads as reads
-use Rattle.recording.proofs.places.Lts as lts
 
 -- src/lib.rt:98:9
 returns : tie.Need-returns

@@ -5,10 +5,6 @@ use native.Mathlib.Omega.{arith}
 use borrow.Author.Needs.{needs}
 use Rattle.recording.proofs.refused.Statement.{statement}
 use Rattle.recording.proofs.refused.Tie as tie
-use Rattle.recording.proofs.refused.Reads as reads
-use Rattle.recording.proofs.refused.Lts as lts
-use Rattle.recording.proofs.letter.Reads as letter-reads
-use Rattle.recording.proofs.number.Reads as number-reads
 
 -- src/lib.rt:160:9
 number-requires : tie.Need-number-requires

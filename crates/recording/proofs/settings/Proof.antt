@@ -1,14 +1,9 @@
 use mathlib.Core.Path.{ap, _∙_}
 use Rattle.recording.specs.Sections.{whole}
 use Rattle.recording.proofs.Sections.{settings-above, settings-cut, settings-other, settings-short, settings-whole}
-use native.Mathlib.Omega.{arith}
 use borrow.Author.Needs.{needs}
 use Rattle.recording.proofs.settings.Statement.{statement}
 use Rattle.recording.proofs.settings.Tie as tie
-use Rattle.recording.proofs.settings.Reads as reads
-use Rattle.recording.proofs.settings.Lts as lts
-use Rattle.octets.proofs.four.Reads as four-reads
-use Rattle.octets.proofs.wide.Reads as wide-reads
 
 -- src/lib.rt:27:33
 sub-t4 : tie.Need-sub-t4

@@ -5,10 +5,6 @@ use native.Mathlib.Omega.{arith}
 use borrow.Author.Needs.{needs}
 use Rattle.recording.proofs.taken.Statement.{statement}
 use Rattle.recording.proofs.taken.Tie as tie
-use Rattle.recording.proofs.taken.Reads as reads
-use Rattle.recording.proofs.taken.Lts as lts
-use Rattle.recording.proofs.letter.Reads as letter-reads
-use Rattle.recording.proofs.number.Reads as number-reads
 
 -- src/lib.rt:173:9
 letter-requires : tie.Need-letter-requires

@@ -5,10 +5,6 @@ use native.Mathlib.Omega.{arith}
 use borrow.Author.Needs.{needs}
 use Rattle.recording.proofs.turned_away.Statement.{statement}
 use Rattle.recording.proofs.turned_away.Tie as tie
-use Rattle.recording.proofs.turned_away.Reads as reads
-use Rattle.recording.proofs.turned_away.Lts as lts
-use Rattle.recording.proofs.letter.Reads as letter-reads
-use Rattle.recording.proofs.number.Reads as number-reads
 
 -- src/lib.rt:187:9
 letter-requires : tie.Need-letter-requires

@@ -1,7 +1,6 @@
 -- `sessions::lengths_of` is safe and ends.
 use Prim.Native.Nat.{_-_}
 use lib.ListN.{length}
-use native.Mathlib.Omega.{arith}
 use borrow.Author.Needs.{needs}
 use Rattle.vectors.proofs.sessions.lengths_of.Statement.{statement}
 use Rattle.vectors.proofs.sessions.lengths_of.Tie as tie

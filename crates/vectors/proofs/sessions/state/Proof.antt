@@ -1,7 +1,5 @@
 -- `sessions::state` is safe and ends.
 use Prim.Native.Nat.{_-_}
-use lib.ListN.{length}
-use native.Mathlib.Omega.{arith}
 use borrow.Author.Needs.{needs}
 use Rattle.vectors.proofs.sessions.state.Statement.{statement}
 use Rattle.vectors.proofs.sessions.state.Tie as tie

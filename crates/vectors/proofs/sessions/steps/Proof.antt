@@ -1,7 +1,6 @@
 -- `sessions::steps` is safe and ends.
 use Prim.Native.Nat.{_-_}
 use lib.ListN.{length}
-use native.Mathlib.Omega.{arith}
 use borrow.Author.Needs.{needs}
 use Rattle.vectors.proofs.sessions.steps.Statement.{statement}
 use Rattle.vectors.proofs.sessions.steps.Tie as tie

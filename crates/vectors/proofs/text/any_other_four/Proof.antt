@@ -1,7 +1,6 @@
 -- `text::any_other_four` is safe and ends.
 use Prim.Native.Nat.{_-_}
 use lib.ListN.{length}
-use native.Mathlib.Omega.{arith}
 use borrow.Author.Needs.{needs}
 use Rattle.vectors.proofs.text.any_other_four.Statement.{statement}
 use Rattle.vectors.proofs.text.any_other_four.Tie as tie

@@ -1,7 +1,6 @@
 -- `text::any_other_word` is safe and ends.
 use Prim.Native.Nat.{_-_}
 use lib.ListN.{length}
-use native.Mathlib.Omega.{arith}
 use borrow.Author.Needs.{needs}
 use Rattle.vectors.proofs.text.any_other_word.Statement.{statement}
 use Rattle.vectors.proofs.text.any_other_word.Tie as tie
