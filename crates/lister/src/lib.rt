@@ -105,7 +105,14 @@ fn opened(input: &mut [u8], out: &mut [u8], octets: &mut [u8], lengths: &mut [u1
 }
 
 // The count of frames, the frames, and that nothing follows them.
-fn counted(input: &mut [u8], out: &mut [u8], octets: &mut [u8], lengths: &mut [u16], s: State, session: Session) -> Turn
+fn counted(
+    input: &mut [u8],
+    out: &mut [u8],
+    octets: &mut [u8],
+    lengths: &mut [u16],
+    s: State,
+    session: Session,
+) -> Turn
     requires { ⌜ Held s (length (now input)) (length (now out)) ⌝ }
     ensures { λ r. ⌜ Held (r .state) (length (now (input .exit))) (length (now (out .exit))) ⌝ }
 {
@@ -133,7 +140,15 @@ fn counted(input: &mut [u8], out: &mut [u8], octets: &mut [u8], lengths: &mut [u
 }
 
 // The frames, one after another: how many are left falls.
-fn frames(input: &mut [u8], out: &mut [u8], octets: &mut [u8], lengths: &mut [u16], s: State, opened: Session, count: usize) -> Turn
+fn frames(
+    input: &mut [u8],
+    out: &mut [u8],
+    octets: &mut [u8],
+    lengths: &mut [u16],
+    s: State,
+    opened: Session,
+    count: usize,
+) -> Turn
     requires { ⌜ Held s (length (now input)) (length (now out)) ⌝ }
     ensures { λ r. ⌜ Held (r .state) (length (now (input .exit))) (length (now (out .exit))) ⌝ }
 {
@@ -189,7 +204,14 @@ fn framed(input: &mut [u8], out: &mut [u8], s: State) -> Ready
 }
 
 // The lines of a frame and of the packets that it completes, put behind what the output has, and how much it then has.
-fn lines(out: &mut [u8], used: usize, arrival: u32, answer: StepAnswer, octets: &[u8], lengths: &[u16]) -> usize
+fn lines(
+    out: &mut [u8],
+    used: usize,
+    arrival: u32,
+    answer: StepAnswer,
+    octets: &[u8],
+    lengths: &[u16],
+) -> usize
     requires { ⌜ used ≤ length (now out) ⌝ }
     ensures { λ r. ⌜ r ≤ length (now (out .exit)) ⌝ }
 {
@@ -207,7 +229,14 @@ fn lines(out: &mut [u8], used: usize, arrival: u32, answer: StepAnswer, octets: 
 }
 
 // The lines of the packets that stand end to end at the start of octets.
-fn packet_lines(out: &mut [u8], used: usize, arrival: u32, packets: usize, octets: &[u8], lengths: &[u16]) -> usize
+fn packet_lines(
+    out: &mut [u8],
+    used: usize,
+    arrival: u32,
+    packets: usize,
+    octets: &[u8],
+    lengths: &[u16],
+) -> usize
     requires { ⌜ used ≤ length (now out) ⌝ }
     requires { ⌜ packets ≤ 255 ⌝ }
     ensures { λ r. ⌜ r ≤ length (now (out .exit)) ⌝ }

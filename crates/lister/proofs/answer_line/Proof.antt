@@ -1,3 +1,4 @@
+-- `lister::answer_line` meets its contract.
 use Prim.Native.Nat.{_-_, _≤_}
 use mathlib.Core.Path.{_≡_}
 use mathlib.Core.List.{_++_}
@@ -10,28 +11,7 @@ use native.Mathlib.Omega.{arith}
 use borrow.Author.Needs.{needs}
 use Rattle.lister.proofs.answer_line.Statement.{statement}
 use Rattle.lister.proofs.answer_line.Tie as tie
-use Rattle.lister.proofs.answer_line.Reads as reads
-use Rattle.lister.proofs.answer_line.Lts as lts
-use Rattle.lister.proofs.behind.Reads as behind-reads
-use Rattle.recording.proofs.answer_line.Reads as answer-line-reads
 
--- src/lib.rt:233:42
-sub-answer-line : tie.Need-sub-answer-line
-sub-answer-line c = search needs
-
--- src/lib.rt:233:42
-part-answer-line-start : tie.Need-part-answer-line-start
-part-answer-line-start c = search needs
-
--- src/lib.rt:233:42
-part-answer-line-end : tie.Need-part-answer-line-end
-part-answer-line-end c = search needs
-
--- src/lib.rt:233:9
-answer-line-requires : tie.Need-answer-line-requires
-answer-line-requires c κs = search needs
-
--- src/lib.rt:234:5
 behind-requires : tie.Need-behind-requires
 behind-requires c κs =
     let l = c .before .before .before in
@@ -44,25 +24,12 @@ behind-requires c κs =
     let m : length ys ≡ length (take k (drop a xs)) = l .answer-line .kept .0 in (
       search needs,
       λ n e. let h : n ≤ length (take k (drop a xs)) = written-fits (l .answer-line .ensures) e in
-      omega (arith, length-append (take a xs) (ys ++ postOf a k xs), length-append ys (postOf a k xs), length-take-le a xs (s .pre)),
+          omega (arith, length-append (take a xs) (ys ++ postOf a k xs), length-append ys (postOf a k xs), length-take-le a xs (s .pre)),
     )
-
--- src/lib.rt:229:1
-same-length : tie.Need-same-length
-same-length c = search needs
-
--- src/lib.rt:229:1
-returns : tie.Need-returns
-returns c = search needs
 
 pub answer-line-spec : {M : Type 1} → statement M
 answer-line-spec =
     tie.close
     (tie.spec
-    sub-answer-line
-    part-answer-line-start
-    part-answer-line-end
-    answer-line-requires
-    behind-requires
-    same-length
-    returns)
+    (λ c. search needs) (λ c. search needs) (λ c. search needs) (λ c κs. search needs) behind-requires
+    (λ c. search needs) (λ c. search needs))

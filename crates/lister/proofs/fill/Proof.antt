@@ -1,9 +1,8 @@
-use Prim.Native.Nat.{ℕ, _+_, _-_, _≤_, _<_}
-use mathlib.Core.Path.{_≡_, refl, sym, ap, _∙_}
-use mathlib.Core.List.{List}
+-- `lister::fill` meets its contract.
+use Prim.Native.Nat.{_-_, _≤_}
+use mathlib.Core.Path.{_≡_, refl, _∙_}
 use native.Mathlib.Omega.{arith}
-use lib.ListN.{length, getD, set, take, drop, length-set}
-use denote.Ref.{now}
+use lib.ListN.{length, take}
 use Rattle.lister.proofs.Moves.{kept-front}
 use Rattle.lister.proofs.fill.Statement.{statement}
 use Rattle.lister.proofs.fill.Tie as tie
@@ -58,14 +57,5 @@ pub fill-spec : {M : Type 1} → statement M
 fill-spec =
     tie.close
     (tie.spec
-    Inv-loop
-    μ-loop
-    loop-holds
-    read-some-requires
-    same-length
-    returns
-    add-end
-    loop-less
-    loop-again
-    same-length-2
+    Inv-loop μ-loop loop-holds read-some-requires same-length returns add-end loop-less loop-again same-length-2
     returns-2)

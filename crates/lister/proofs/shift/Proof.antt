@@ -1,8 +1,8 @@
+-- `lister::shift` meets its contract.
 use Prim.Native.Nat.{ℕ, _+_, _-_, _≤_, _<_}
 use mathlib.Core.Path.{_≡_, refl, sym, ap, _∙_}
-use mathlib.Core.List.{List}
 use native.Mathlib.Omega.{arith}
-use lib.ListN.{length, getD, set, take, drop, length-set}
+use lib.ListN.{length, take, drop, length-set}
 use denote.Ref.{now}
 use Rattle.lister.proofs.Moves.{moved-more, rest-more}
 use Rattle.lister.proofs.shift.Statement.{statement}
@@ -57,14 +57,5 @@ pub shift-spec : {M : Type 1} → statement M
 shift-spec =
     tie.close
     (tie.spec
-    Inv-loop
-    μ-loop
-    loop-holds
-    add-input
-    slice-read-input
-    slice-write-input
-    add-i
-    loop-less
-    loop-again
-    same-length
-    returns)
+    Inv-loop μ-loop loop-holds add-input slice-read-input slice-write-input add-i loop-less loop-again
+    same-length returns)
