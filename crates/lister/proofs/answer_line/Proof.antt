@@ -1,3 +1,4 @@
+-- `lister::answer_line` meets its contract.
 use Prim.Native.Nat.{_-_, _≤_}
 use mathlib.Core.Path.{_≡_}
 use mathlib.Core.List.{_++_}
@@ -11,23 +12,6 @@ use borrow.Author.Needs.{needs}
 use Rattle.lister.proofs.answer_line.Statement.{statement}
 use Rattle.lister.proofs.answer_line.Tie as tie
 
--- src/lib.rt:233:42
-sub-answer-line : tie.Need-sub-answer-line
-sub-answer-line c = search needs
-
--- src/lib.rt:233:42
-part-answer-line-start : tie.Need-part-answer-line-start
-part-answer-line-start c = search needs
-
--- src/lib.rt:233:42
-part-answer-line-end : tie.Need-part-answer-line-end
-part-answer-line-end c = search needs
-
--- src/lib.rt:233:9
-answer-line-requires : tie.Need-answer-line-requires
-answer-line-requires c κs = search needs
-
--- src/lib.rt:234:5
 behind-requires : tie.Need-behind-requires
 behind-requires c κs =
     let l = c .before .before .before in
@@ -43,22 +27,9 @@ behind-requires c κs =
           omega (arith, length-append (take a xs) (ys ++ postOf a k xs), length-append ys (postOf a k xs), length-take-le a xs (s .pre)),
     )
 
--- src/lib.rt:229:1
-same-length : tie.Need-same-length
-same-length c = search needs
-
--- src/lib.rt:229:1
-returns : tie.Need-returns
-returns c = search needs
-
 pub answer-line-spec : {M : Type 1} → statement M
 answer-line-spec =
     tie.close
     (tie.spec
-    sub-answer-line
-    part-answer-line-start
-    part-answer-line-end
-    answer-line-requires
-    behind-requires
-    same-length
-    returns)
+    (λ c. search needs) (λ c. search needs) (λ c. search needs) (λ c κs. search needs) behind-requires
+    (λ c. search needs) (λ c. search needs))

@@ -1,3 +1,4 @@
+-- `lister::fill` meets its contract.
 use Prim.Native.Nat.{_-_, _≤_}
 use mathlib.Core.Path.{_≡_, refl, _∙_}
 use native.Mathlib.Omega.{arith}
@@ -56,14 +57,5 @@ pub fill-spec : {M : Type 1} → statement M
 fill-spec =
     tie.close
     (tie.spec
-    Inv-loop
-    μ-loop
-    loop-holds
-    read-some-requires
-    same-length
-    returns
-    add-end
-    loop-less
-    loop-again
-    same-length-2
+    Inv-loop μ-loop loop-holds read-some-requires same-length returns add-end loop-less loop-again same-length-2
     returns-2)

@@ -1,3 +1,4 @@
+-- `lister::frames` meets its contract.
 use denote.Ref.{now}
 use borrow.Author.Tests.{not-false}
 use mathlib.Core.Path.{_≡_, _∙_}
@@ -16,39 +17,6 @@ abbrev μ-loop : tie.MeasureT-loop
 μ-loop input₀ out₀ octets₀ lengths₀ count session₀ state₀ left₀ input out octets lengths session state left =
     left
 
--- src/lib.rt:143:5
-loop-holds : tie.Need-loop-holds Inv-loop μ-loop
-loop-holds c = search needs
-
--- src/lib.rt:144:13
-framed-requires : tie.Need-framed-requires Inv-loop μ-loop
-framed-requires c κs = search needs
-
--- src/lib.rt:147:13
-same-length : tie.Need-same-length Inv-loop μ-loop
-same-length c = search needs
-
--- src/lib.rt:147:13
-same-length-2 : tie.Need-same-length-2 Inv-loop μ-loop
-same-length-2 c = search needs
-
--- src/lib.rt:147:13
-same-length-3 : tie.Need-same-length-3 Inv-loop μ-loop
-same-length-3 c = search needs
-
--- src/lib.rt:147:13
-same-length-4 : tie.Need-same-length-4 Inv-loop μ-loop
-same-length-4 c = search needs
-
--- src/lib.rt:147:13
-returns : tie.Need-returns Inv-loop μ-loop
-returns c = search needs
-
--- src/lib.rt:149:20
-add-from : tie.Need-add-from Inv-loop μ-loop
-add-from c = search needs
-
--- src/lib.rt:150:18
 add-to : tie.Need-add-to Inv-loop μ-loop
 add-to c =
     let f = c .before .before .before .before .before .before .before .before .before .framed in
@@ -56,15 +24,6 @@ add-to c =
     let w = f .ensures .within (not-false _ (c .before .before .if1 .left)) in
     omega (arith, w, h .from, h .until)
 
--- src/lib.rt:151:36
-sub-step : tie.Need-sub-step Inv-loop μ-loop
-sub-step c = search needs
-
--- src/lib.rt:151:36
-part-step-start : tie.Need-part-step-start Inv-loop μ-loop
-part-step-start c = search needs
-
--- src/lib.rt:151:36
 part-step-end : tie.Need-part-step-end Inv-loop μ-loop
 part-step-end c =
     let f = c .before .before .before .before .before .before .before .before .before .before .framed in
@@ -72,23 +31,15 @@ part-step-end c =
     let w = f .ensures .within (not-false _ (c .before .before .before .if1 .left)) in
     omega (arith, w, h .from, h .until)
 
--- src/lib.rt:151:13
-step-requires : tie.Need-step-requires Inv-loop μ-loop
-step-requires c κs = search needs
-
--- src/lib.rt:156:13
 lines-requires : tie.Need-lines-requires Inv-loop μ-loop
 lines-requires c κs = c .before .before .before .before .before .before .before .before .before .before .before .before .before .before .before .before .before .before .before .before .before .before .framed .ensures .held .filled
 
--- src/lib.rt:163:9
 sub-left : tie.Need-sub-left Inv-loop μ-loop
 sub-left c = omega (arith, c .before .before .before .before .before .before .before .before .before .before .before .before .before .before .before .before .before .before .before .before .before .before .before .before .before .before .before .before .loop-test .taken)
 
--- src/lib.rt:143:5
 loop-less : tie.Need-loop-less Inv-loop μ-loop
 loop-less c = omega (arith, c .before .before .before .before .before .before .before .before .before .before .before .before .before .before .before .before .before .before .before .before .before .before .before .before .before .before .before .before .loop-test .taken)
 
--- src/lib.rt:143:5
 loop-again : tie.Need-loop-again Inv-loop μ-loop
 loop-again c =
     let f = c .before .before .before .before .before .before .before .before .before .before .before .before .before .before .before .before .before .before .before .before .before .before .before .before .before .framed in
@@ -107,51 +58,11 @@ loop-again c =
       record { from = omega (arith, w, h .from); until = omega (arith, h .until); filled = n .ensures },
     )
 
--- src/lib.rt:136:1
-same-length-5 : tie.Need-same-length-5 Inv-loop μ-loop
-same-length-5 c = search needs
-
--- src/lib.rt:136:1
-same-length-6 : tie.Need-same-length-6 Inv-loop μ-loop
-same-length-6 c = search needs
-
--- src/lib.rt:136:1
-same-length-7 : tie.Need-same-length-7 Inv-loop μ-loop
-same-length-7 c = search needs
-
--- src/lib.rt:136:1
-same-length-8 : tie.Need-same-length-8 Inv-loop μ-loop
-same-length-8 c = search needs
-
--- src/lib.rt:136:1
-returns-2 : tie.Need-returns-2 Inv-loop μ-loop
-returns-2 c = search needs
-
 pub frames-spec : {M : Type 1} → statement M
 frames-spec =
     tie.close
     (tie.spec
-    Inv-loop
-    μ-loop
-    loop-holds
-    framed-requires
-    same-length
-    same-length-2
-    same-length-3
-    same-length-4
-    returns
-    add-from
-    add-to
-    sub-step
-    part-step-start
-    part-step-end
-    step-requires
-    lines-requires
-    sub-left
-    loop-less
-    loop-again
-    same-length-5
-    same-length-6
-    same-length-7
-    same-length-8
-    returns-2)
+    Inv-loop μ-loop (λ c. search needs) (λ c κs. search needs) (λ c. search needs) (λ c. search needs)
+    (λ c. search needs) (λ c. search needs) (λ c. search needs) (λ c. search needs) add-to (λ c. search needs)
+    (λ c. search needs) part-step-end (λ c κs. search needs) lines-requires sub-left loop-less loop-again
+    (λ c. search needs) (λ c. search needs) (λ c. search needs) (λ c. search needs) (λ c. search needs))

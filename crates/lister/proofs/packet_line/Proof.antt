@@ -1,3 +1,4 @@
+-- `lister::packet_line` meets its contract.
 use Prim.Native.Nat.{_-_, _≤_}
 use mathlib.Core.Path.{_≡_}
 use mathlib.Core.List.{_++_}
@@ -11,23 +12,6 @@ use borrow.Author.Needs.{needs}
 use Rattle.lister.proofs.packet_line.Statement.{statement}
 use Rattle.lister.proofs.packet_line.Tie as tie
 
--- src/lib.rt:242:42
-sub-packet-line : tie.Need-sub-packet-line
-sub-packet-line c = search needs
-
--- src/lib.rt:242:42
-part-packet-line-start : tie.Need-part-packet-line-start
-part-packet-line-start c = search needs
-
--- src/lib.rt:242:42
-part-packet-line-end : tie.Need-part-packet-line-end
-part-packet-line-end c = search needs
-
--- src/lib.rt:242:9
-packet-line-requires : tie.Need-packet-line-requires
-packet-line-requires c κs = search needs
-
--- src/lib.rt:243:5
 behind-requires : tie.Need-behind-requires
 behind-requires c κs =
     let l = c .before .before .before in
@@ -43,22 +27,9 @@ behind-requires c κs =
           omega (arith, length-append (take a xs) (ys ++ postOf a k xs), length-append ys (postOf a k xs), length-take-le a xs (s .pre)),
     )
 
--- src/lib.rt:238:1
-same-length : tie.Need-same-length
-same-length c = search needs
-
--- src/lib.rt:238:1
-returns : tie.Need-returns
-returns c = search needs
-
 pub packet-line-spec : {M : Type 1} → statement M
 packet-line-spec =
     tie.close
     (tie.spec
-    sub-packet-line
-    part-packet-line-start
-    part-packet-line-end
-    packet-line-requires
-    behind-requires
-    same-length
-    returns)
+    (λ c. search needs) (λ c. search needs) (λ c. search needs) (λ c κs. search needs) behind-requires
+    (λ c. search needs) (λ c. search needs))

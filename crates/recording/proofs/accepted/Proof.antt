@@ -1,3 +1,4 @@
+-- `recording::accepted` meets its contract.
 use mathlib.Core.List.{append-assoc}
 use Rattle.recording.specs.Text.{acceptedLine, decimal}
 use Rattle.recording.proofs.Lines.{begin, next, ended}
@@ -7,35 +8,6 @@ use borrow.Author.Needs.{needs}
 use Rattle.recording.proofs.accepted.Statement.{statement}
 use Rattle.recording.proofs.accepted.Tie as tie
 
--- src/lib.rt:147:9
-number-requires : tie.Need-number-requires
-number-requires c κs = search needs
-
--- src/lib.rt:148:9
-letter-requires : tie.Need-letter-requires
-letter-requires c κs = search needs
-
--- src/lib.rt:149:9
-number-requires-2 : tie.Need-number-requires-2
-number-requires-2 c κs = search needs
-
--- src/lib.rt:150:9
-number-requires-3 : tie.Need-number-requires-3
-number-requires-3 c κs = search needs
-
--- src/lib.rt:151:9
-number-requires-4 : tie.Need-number-requires-4
-number-requires-4 c κs = search needs
-
--- src/lib.rt:152:5
-number-requires-5 : tie.Need-number-requires-5
-number-requires-5 c κs = search needs
-
--- src/lib.rt:143:1
-same-length : tie.Need-same-length
-same-length c = search needs
-
--- src/lib.rt:143:1
 returns : tie.Need-returns
 unfolding acceptedLine decimal pick
 returns c =
@@ -57,11 +29,5 @@ pub accepted-spec : {M : Type 1} → statement M
 accepted-spec =
     tie.close
     (tie.spec
-    number-requires
-    letter-requires
-    number-requires-2
-    number-requires-3
-    number-requires-4
-    number-requires-5
-    same-length
-    returns)
+    (λ c κs. search needs) (λ c κs. search needs) (λ c κs. search needs) (λ c κs. search needs)
+    (λ c κs. search needs) (λ c κs. search needs) (λ c. search needs) returns)

@@ -1,3 +1,4 @@
+-- `recording::digits` meets its contract.
 use native.Mathlib.Nat.{add-zero}
 use mathlib.Core.List.{List}
 use denote.Ref.{now}
@@ -18,37 +19,11 @@ Inv-loop out₀ at n k i₀ rest₀ out i rest = (i ≤ k) × (length out ≡ le
 abbrev μ-loop : tie.MeasureT-loop
 μ-loop out₀ at n k i₀ rest₀ out i rest = i
 
--- src/lib.rt:135:5
 loop-holds : tie.Need-loop-holds Inv-loop μ-loop
 loop-holds c =
     let a = c .args in
     (omega arith, refl, subst (λ (d : List ℕ). Putting d (now (a .out)) (a .at) (a .k) (a .n) (now (a .out))) (ap (λ (k : ℕ). lastDigits k (a .n)) (c .pre .0) ∙ decimal-last (a .n)) (none-put (a .k) (a .n) (now (a .out)) (a .at)))
 
--- src/lib.rt:136:9
-sub-i : tie.Need-sub-i Inv-loop μ-loop
-sub-i c = search needs
-
--- src/lib.rt:137:28
-cast-out : tie.Need-cast-out Inv-loop μ-loop
-cast-out c = search needs
-
--- src/lib.rt:137:23
-add-out : tie.Need-add-out Inv-loop μ-loop
-add-out c = search needs
-
--- src/lib.rt:137:13
-add-out-2 : tie.Need-add-out-2 Inv-loop μ-loop
-add-out-2 c = search needs
-
--- src/lib.rt:137:9
-slice-write-out : tie.Need-slice-write-out Inv-loop μ-loop
-slice-write-out c = search needs
-
--- src/lib.rt:135:5
-loop-less : tie.Need-loop-less Inv-loop μ-loop
-loop-less c = search needs
-
--- src/lib.rt:135:5
 loop-again : tie.Need-loop-again Inv-loop μ-loop
 loop-again c =
     let l = c .before .loop in
@@ -62,11 +37,6 @@ loop-again c =
           (subst (λ (x : ℕ). Putting (decimal (a .n)) (now (a .out)) (a .at) x (l .rest) (l .out)) e (l .inv .2)),
     )
 
--- src/lib.rt:128:1
-same-length : tie.Need-same-length Inv-loop μ-loop
-same-length c = search needs
-
--- src/lib.rt:128:1
 returns : tie.Need-returns Inv-loop μ-loop
 returns c =
     let l = c .before .loop in
@@ -78,15 +48,5 @@ pub digits-spec : {M : Type 1} → statement M
 digits-spec =
     tie.close
     (tie.spec
-    Inv-loop
-    μ-loop
-    loop-holds
-    sub-i
-    cast-out
-    add-out
-    add-out-2
-    slice-write-out
-    loop-less
-    loop-again
-    same-length
-    returns)
+    Inv-loop μ-loop loop-holds (λ c. search needs) (λ c. search needs) (λ c. search needs) (λ c. search needs)
+    (λ c. search needs) (λ c. search needs) loop-again (λ c. search needs) returns)

@@ -1,3 +1,4 @@
+-- `recording::fit` meets its contract.
 use Prim.Native.Nat.{_≤_}
 use mathlib.Core.Path.{refl, _∙_}
 use mathlib.Core.Bool.{false}
@@ -9,19 +10,9 @@ use borrow.Author.Needs.{needs}
 use Rattle.recording.proofs.fit.Statement.{statement}
 use Rattle.recording.proofs.fit.Tie as tie
 
--- src/lib.rt:211:9
 returns : tie.Need-returns
 returns c = refused-50 {said = false} refl refl (search needs)
 
--- src/lib.rt:213:5
-put-requires : tie.Need-put-requires
-put-requires c κs = search needs
-
--- src/lib.rt:207:1
-same-length : tie.Need-same-length
-same-length c = search needs
-
--- src/lib.rt:207:1
 returns-2 : tie.Need-returns-2
 returns-2 c =
     let p = c .before .before in
@@ -30,4 +21,6 @@ returns-2 c =
     wrote {said = false} refl refl fits refl (p .put .ensures ∙ put-first _ _ fits)
 
 pub fit-spec : {M : Type 1} → statement M
-fit-spec = tie.close (tie.spec returns put-requires same-length returns-2)
+fit-spec = tie.close
+    (tie.spec
+    returns (λ c κs. search needs) (λ c. search needs) returns-2)

@@ -1,3 +1,4 @@
+-- `recording::number` meets its contract.
 use Prim.Native.Nat.{ℕ, _+_, _≤_}
 use mathlib.Core.Path.{_≡_, ap, _∙_}
 use mathlib.Core.List.{List}
@@ -11,31 +12,6 @@ use borrow.Author.Needs.{needs}
 use Rattle.recording.proofs.number.Statement.{statement}
 use Rattle.recording.proofs.number.Tie as tie
 
--- src/lib.rt:85:9
-places-requires : tie.Need-places-requires
-places-requires c κs = search needs
-
--- src/lib.rt:86:5
-digits-requires : tie.Need-digits-requires
-digits-requires c κs = search needs
-
--- src/lib.rt:87:15
-add-end : tie.Need-add-end
-add-end c = search needs
-
--- src/lib.rt:88:5
-slice-write-out : tie.Need-slice-write-out
-slice-write-out c = search needs
-
--- src/lib.rt:89:5
-add-result : tie.Need-add-result
-add-result c = search needs
-
--- src/lib.rt:81:1
-same-length : tie.Need-same-length
-same-length c = search needs
-
--- src/lib.rt:81:1
 returns : tie.Need-returns
 returns c =
     let d = c .before .before in
@@ -58,10 +34,5 @@ pub number-spec : {M : Type 1} → statement M
 number-spec =
     tie.close
     (tie.spec
-    places-requires
-    digits-requires
-    add-end
-    slice-write-out
-    add-result
-    same-length
-    returns)
+    (λ c κs. search needs) (λ c κs. search needs) (λ c. search needs) (λ c. search needs) (λ c. search needs)
+    (λ c. search needs) returns)

@@ -1,45 +1,36 @@
+-- `recording::places` meets its contract.
 use Rattle.recording.proofs.Decimal.{how-many}
 use borrow.Author.Needs.{needs}
 use Rattle.recording.proofs.places.Statement.{statement}
 use Rattle.recording.proofs.places.Tie as tie
 
--- src/lib.rt:98:9
 returns : tie.Need-returns
 returns c = (how-many 1 _ (search needs) (search needs, search needs, λ h. search needs), search needs)
 
--- src/lib.rt:101:9
 returns-2 : tie.Need-returns-2
 returns-2 c = (how-many 2 _ (search needs) (search needs, search needs, λ h. search needs), search needs)
 
--- src/lib.rt:104:9
 returns-3 : tie.Need-returns-3
 returns-3 c = (how-many 3 _ (search needs) (search needs, search needs, λ h. search needs), search needs)
 
--- src/lib.rt:107:9
 returns-4 : tie.Need-returns-4
 returns-4 c = (how-many 4 _ (search needs) (search needs, search needs, λ h. search needs), search needs)
 
--- src/lib.rt:110:9
 returns-5 : tie.Need-returns-5
 returns-5 c = (how-many 5 _ (search needs) (search needs, search needs, λ h. search needs), search needs)
 
--- src/lib.rt:113:9
 returns-6 : tie.Need-returns-6
 returns-6 c = (how-many 6 _ (search needs) (search needs, search needs, λ h. search needs), search needs)
 
--- src/lib.rt:116:9
 returns-7 : tie.Need-returns-7
 returns-7 c = (how-many 7 _ (search needs) (search needs, search needs, λ h. search needs), search needs)
 
--- src/lib.rt:119:9
 returns-8 : tie.Need-returns-8
 returns-8 c = (how-many 8 _ (search needs) (search needs, search needs, λ h. search needs), search needs)
 
--- src/lib.rt:122:9
 returns-9 : tie.Need-returns-9
 returns-9 c = (how-many 9 _ (search needs) (search needs, search needs, λ h. search needs), search needs)
 
--- src/lib.rt:93:1
 returns-10 : tie.Need-returns-10
 returns-10 c = (how-many 10 _ (search needs) (search needs, search needs, λ h. search needs), search needs)
 
@@ -47,13 +38,4 @@ pub places-spec : {M : Type 1} → statement M
 places-spec =
     tie.close
     (tie.spec
-    returns
-    returns-2
-    returns-3
-    returns-4
-    returns-5
-    returns-6
-    returns-7
-    returns-8
-    returns-9
-    returns-10)
+    returns returns-2 returns-3 returns-4 returns-5 returns-6 returns-7 returns-8 returns-9 returns-10)

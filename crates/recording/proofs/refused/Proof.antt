@@ -1,3 +1,4 @@
+-- `recording::refused` meets its contract.
 use mathlib.Core.List.{append-assoc}
 use Rattle.recording.specs.Text.{refusedLine}
 use Rattle.recording.proofs.Lines.{begin, next, ended}
@@ -6,35 +7,6 @@ use borrow.Author.Needs.{needs}
 use Rattle.recording.proofs.refused.Statement.{statement}
 use Rattle.recording.proofs.refused.Tie as tie
 
--- src/lib.rt:160:9
-number-requires : tie.Need-number-requires
-number-requires c κs = search needs
-
--- src/lib.rt:161:9
-number-requires-2 : tie.Need-number-requires-2
-number-requires-2 c κs = search needs
-
--- src/lib.rt:162:9
-letter-requires : tie.Need-letter-requires
-letter-requires c κs = search needs
-
--- src/lib.rt:163:9
-letter-requires-2 : tie.Need-letter-requires-2
-letter-requires-2 c κs = search needs
-
--- src/lib.rt:164:9
-letter-requires-3 : tie.Need-letter-requires-3
-letter-requires-3 c κs = search needs
-
--- src/lib.rt:165:5
-letter-requires-4 : tie.Need-letter-requires-4
-letter-requires-4 c κs = search needs
-
--- src/lib.rt:156:1
-same-length : tie.Need-same-length
-same-length c = search needs
-
--- src/lib.rt:156:1
 returns : tie.Need-returns
 unfolding refusedLine
 returns c =
@@ -56,11 +28,5 @@ pub refused-spec : {M : Type 1} → statement M
 refused-spec =
     tie.close
     (tie.spec
-    number-requires
-    number-requires-2
-    letter-requires
-    letter-requires-2
-    letter-requires-3
-    letter-requires-4
-    same-length
-    returns)
+    (λ c κs. search needs) (λ c κs. search needs) (λ c κs. search needs) (λ c κs. search needs)
+    (λ c κs. search needs) (λ c κs. search needs) (λ c. search needs) returns)

@@ -1,3 +1,4 @@
+-- `recording::taken` meets its contract.
 use mathlib.Core.List.{append-assoc}
 use Rattle.recording.specs.Text.{packetLine}
 use Rattle.recording.proofs.Lines.{begin, next, ended}
@@ -6,39 +7,6 @@ use borrow.Author.Needs.{needs}
 use Rattle.recording.proofs.taken.Statement.{statement}
 use Rattle.recording.proofs.taken.Tie as tie
 
--- src/lib.rt:173:9
-letter-requires : tie.Need-letter-requires
-letter-requires c κs = search needs
-
--- src/lib.rt:174:9
-number-requires : tie.Need-number-requires
-number-requires c κs = search needs
-
--- src/lib.rt:175:9
-number-requires-2 : tie.Need-number-requires-2
-number-requires-2 c κs = search needs
-
--- src/lib.rt:176:9
-number-requires-3 : tie.Need-number-requires-3
-number-requires-3 c κs = search needs
-
--- src/lib.rt:177:9
-number-requires-4 : tie.Need-number-requires-4
-number-requires-4 c κs = search needs
-
--- src/lib.rt:178:9
-number-requires-5 : tie.Need-number-requires-5
-number-requires-5 c κs = search needs
-
--- src/lib.rt:179:5
-number-requires-6 : tie.Need-number-requires-6
-number-requires-6 c κs = search needs
-
--- src/lib.rt:169:1
-same-length : tie.Need-same-length
-same-length c = search needs
-
--- src/lib.rt:169:1
 returns : tie.Need-returns
 unfolding packetLine
 returns c =
@@ -62,12 +30,5 @@ pub taken-spec : {M : Type 1} → statement M
 taken-spec =
     tie.close
     (tie.spec
-    letter-requires
-    number-requires
-    number-requires-2
-    number-requires-3
-    number-requires-4
-    number-requires-5
-    number-requires-6
-    same-length
-    returns)
+    (λ c κs. search needs) (λ c κs. search needs) (λ c κs. search needs) (λ c κs. search needs)
+    (λ c κs. search needs) (λ c κs. search needs) (λ c κs. search needs) (λ c. search needs) returns)

@@ -1,3 +1,4 @@
+-- `recording::turned_away` meets its contract.
 use mathlib.Core.List.{append-assoc}
 use Rattle.recording.specs.Text.{turnedAwayLine}
 use Rattle.recording.proofs.Lines.{begin, next, ended}
@@ -6,27 +7,6 @@ use borrow.Author.Needs.{needs}
 use Rattle.recording.proofs.turned_away.Statement.{statement}
 use Rattle.recording.proofs.turned_away.Tie as tie
 
--- src/lib.rt:187:9
-letter-requires : tie.Need-letter-requires
-letter-requires c κs = search needs
-
--- src/lib.rt:188:9
-number-requires : tie.Need-number-requires
-number-requires c κs = search needs
-
--- src/lib.rt:189:9
-number-requires-2 : tie.Need-number-requires-2
-number-requires-2 c κs = search needs
-
--- src/lib.rt:190:5
-number-requires-3 : tie.Need-number-requires-3
-number-requires-3 c κs = search needs
-
--- src/lib.rt:183:1
-same-length : tie.Need-same-length
-same-length c = search needs
-
--- src/lib.rt:183:1
 returns : tie.Need-returns
 unfolding turnedAwayLine
 returns c =
@@ -44,9 +24,5 @@ pub turned-away-spec : {M : Type 1} → statement M
 turned-away-spec =
     tie.close
     (tie.spec
-    letter-requires
-    number-requires
-    number-requires-2
-    number-requires-3
-    same-length
-    returns)
+    (λ c κs. search needs) (λ c κs. search needs) (λ c κs. search needs) (λ c κs. search needs)
+    (λ c. search needs) returns)
