@@ -330,6 +330,13 @@ fn waited(input: &mut [u8], out: &mut [u8], s: State, kind: Kind) -> Ready
             }
             Section::Missing(n) => {
                 state = more(input, out, state, n);
+                if ended(end - at, n, state) {
+                    return Ready {
+                        whole: false,
+                        number: 0,
+                        state,
+                    };
+                }
             }
         }
         looks -= 1;
@@ -339,6 +346,17 @@ fn waited(input: &mut [u8], out: &mut [u8], s: State, kind: Kind) -> Ready
         number: 0,
         state,
     }
+}
+
+// Whether the input ended before there were n octets more than the window had.
+fn ended(had: usize, n: usize, s: State) -> bool
+    requires { ⌜ s .at ≤ s .end ⌝ }
+{
+    let have = s.end - s.at;
+    if have < n {
+        return true;
+    }
+    have - n < had
 }
 
 // What stands at the window's start.

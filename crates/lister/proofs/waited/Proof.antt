@@ -25,7 +25,10 @@ returns-2 : tie.Need-returns-2 Inv-loop μ-loop
 returns-2 c = record { held = c .before .before .before .before .before .before .loop .inv .1; within = λ h. absurd (false≢true h) }
 
 returns-3 : tie.Need-returns-3 Inv-loop μ-loop
-returns-3 c = record { held = c .before .loop .inv .1; within = λ h. absurd (false≢true h) }
+returns-3 c = record { held = search needs; within = λ h. absurd (false≢true h) }
+
+returns-4 : tie.Need-returns-4 Inv-loop μ-loop
+returns-4 c = record { held = c .before .loop .inv .1; within = λ h. absurd (false≢true h) }
 
 pub waited-spec : {M : Type 1} → statement M
 waited-spec =
@@ -34,5 +37,6 @@ waited-spec =
     Inv-loop μ-loop (λ c κs. search needs) (λ c. search needs) (λ c. search needs) (λ c. search needs)
     (λ c. search needs) (λ c κs. search needs) (λ c. search needs) (λ c. search needs) (λ c. search needs)
     returns (λ c. search needs) (λ c. search needs) (λ c. search needs) returns-2 (λ c. search needs)
-    (λ c κs. search needs) (λ c. search needs) (λ c. search needs) (λ c. search needs) (λ c. search needs)
-    (λ c. search needs) returns-3)
+    (λ c κs. search needs) (λ c. search needs) (λ c κs. search needs) (λ c. search needs) (λ c. search needs)
+    returns-3 (λ c. search needs) (λ c. search needs) (λ c. search needs) (λ c. search needs)
+    (λ c. search needs) returns-4)
