@@ -22,7 +22,7 @@ use Rattle.session.specs.Open.{opened}
 use Rattle.session.specs.Step.{Accepted, Outcome, refused, counted, accepted, heeded, outcome, Gives}
 use Rattle.session.proofs.Staying.{Reached, reached-sound, step-reached}
 use Rattle.delivery.specs.Stream.{nextCount}
-use Rattle.delivery.specs.Sender.{Framed, octetsOf, AllWellFormed, Mastered, when}
+use Rattle.delivery.specs.Sender.{Framed, sentOctets, AllWellFormed, Mastered, when}
 use Rattle.delivery.specs.Link.{kept, allFates}
 use Rattle.delivery.specs.Expected.{Loss, oneMore, toldAs, lossesAfter, expectedLosses, AtMost}
 use Rattle.delivery.specs.Run.{Call, Runs, Room, frameOf}
@@ -110,7 +110,7 @@ module _ (s : Session) (f : Framed) where
 
 module _ (t : ℕ) where
   masters : (fs : List Framed) (link : List Bool) (calls : List Call) (s : Session) (d : Option ℕ) (m : ℕ)
-      → Reached s → s .t ≡ t → Runs s calls → Room calls → map frameOf calls ≡ map (octetsOf t) (kept link fs)
+      → Reached s → s .t ≡ t → Runs s calls → Room calls → map frameOf calls ≡ map (sentOctets t) (kept link fs)
       → AllWellFormed t fs → Mastered m fs → m < 256 → s .arrival + length (kept link fs) ≤ 4294967295
       → Follows (lastOf (s .heard) (s .master .0)) d m
       → masterLosses calls ≡ map modulo256 (lossesAfter d (allFates (s .arrival) link fs))
@@ -125,8 +125,8 @@ module _ (t : ℕ) where
       (follows-lost (lastOf (s .heard) (s .master .0)) d m q)
   masters (f ∷ fs) (true ∷ link) [] s d m r e w k x g h l n q = absurd (nil-cons x)
   masters (f ∷ fs) (true ∷ link) (c ∷ cs) s d m r e w k x g h l n q =
-      let here : frameOf c ≡ octetsOf t f = cc in
-      let rest : map frameOf cs ≡ map (octetsOf t) (kept link fs) = cc in
+      let here : frameOf c ≡ sentOctets t f = cc in
+      let rest : map frameOf cs ≡ map (sentOctets t) (kept link fs) = cc in
       let b = reads-back (f .fields) t (f .«data») (f .time) (g .0) in
       let o : Outcome = taken s f in
       let is : outcome s (frameOf c) (length (c .octets)) (length (c .lengths)) ≡ o =

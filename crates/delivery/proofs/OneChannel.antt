@@ -8,8 +8,8 @@ use native.Mathlib.Omega.{arith}
 use lib.ListN.{length, take, drop}
 use Rattle.rules.specs.Channel.{Piece, Held, nothing, Handed, Work, follow, pointerTo, fresh}
 use Rattle.rules.specs.Packets.{AllGood, joined}
-use Rattle.delivery.specs.Stream.{Choice, raw, next, nextCount, written}
-use Rattle.delivery.proofs.Sending.{written-cut, restAfter, packetsAfter, nextPiece, cutInto}
+use Rattle.delivery.specs.Stream.{Choice, raw, next, nextCount, framesBy}
+use Rattle.delivery.proofs.Sending.{frames-cut, restAfter, packetsAfter, nextPiece, cutInto}
 use Rattle.delivery.specs.Expected.{Fate, lost, got, piece, owners, expectedLosses, AtMost, mostLost, oneMore}
 use Rattle.delivery.specs.Delivered.{Delivered, handed, losses}
 use Rattle.delivery.specs.Channels.{offered, run}
@@ -83,10 +83,10 @@ counted (s ∷ t) (next n ∷ cs) c r ps e =
 -- Demand 3 on one channel: packets ps, cut into frames by the choices cs from the count c on, each frame lost or offered under an
 -- arrival number, at most 255 lost between two arrivals.
 pub delivery : (ps : List (List ℕ)) (cs : List Choice) (c : ℕ) (ss : List Fate)
-    → AllGood ps → c < 256 → map piece ss ≡ written ps 0 c cs → AllShort (map piece ss) → AtMost mostLost (expectedLosses ss)
+    → AllGood ps → c < 256 → map piece ss ≡ framesBy ps 0 c cs → AllShort (map piece ss) → AtMost mostLost (expectedLosses ss)
     → Delivered ps ss (run fresh (offered ss))
 delivery ps cs c ss gs hc e sz m =
-    let e′ : map piece ss ≡ cutInto c [] ps cs = e ∙ written-cut ps cs 0 c [] ps gs refl refl in
+    let e′ : map piece ss ≡ cutInto c [] ps cs = e ∙ frames-cut ps cs 0 c [] ps gs refl refl in
     let seen = counts ss c hc (counted ss cs c [] ps e′) m in
     record {
       handed-out = ap handed seen ∙ main ss ss cs c 0 none false nothing 0 [] [] ps refl e′ gs sz (record { empty = refl; gap = tt });

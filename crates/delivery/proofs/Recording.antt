@@ -18,7 +18,7 @@ use Rattle.session.specs.declared.Session.{Session}
 use Rattle.session.specs.declared.Opened.{Opened}
 use Rattle.session.specs.Open.{opened, opening, Opens}
 use Rattle.session.proofs.Staying.{Reached, opening-reached}
-use Rattle.delivery.specs.Sender.{Framed, octetsOf, AllWellFormed, when, ofChannel, pieceOf, piecesOf, Stream}
+use Rattle.delivery.specs.Sender.{Framed, sentOctets, AllWellFormed, when, ofChannel, pieceOf, piecesOf, Stream}
 use Rattle.delivery.specs.Link.{kept, fates}
 use Rattle.delivery.specs.Expected.{Fate, lost, got, piece}
 use Rattle.delivery.specs.Delivered.{Delivered}
@@ -68,20 +68,20 @@ module _ (t : ℕ) where
   all-short v [] w = tt
   all-short v (f ∷ fs) w =
       let r = reads-back (f .fields) t (f .«data») (f .time) (w .0) in
-      let a = accepts t (octetsOf t f) (f .fields) (r .fields) in
+      let a = accepts t (sentOctets t f) (f .fields) (r .fields) in
       short-when (ofChannel v f) (pieceOf f) (piecesOf v fs) (omega (arith, a .few, a .«data», ap length (r .«data»))) (all-short v fs (w .1))
 
   offer-is : (v a : ℕ) (f : Framed) → ReadBack (f .fields) t (f .«data») (f .time)
-      → offerOf v a (octetsOf t f) (readFrame t (octetsOf t f)) ≡ when (ofChannel v f) (record { arrival = a; frame = pieceOf f })
+      → offerOf v a (sentOctets t f) (readFrame t (sentOctets t f)) ≡ when (ofChannel v f) (record { arrival = a; frame = pieceOf f })
   offer-is v a f r =
-      ap (offerOf v a (octetsOf t f)) (r .fields)
+      ap (offerOf v a (sentOctets t f)) (r .fields)
       ∙ ap (λ (d : List ℕ). when (ofChannel v f) (offer d)) (r .«data»)
     where
       offer : List ℕ → Offer
       offer d = record { arrival = a; frame = record { count = f .fields .count .0; pointer = f .fields .pointer; octets = d } }
 
   offers-fates : (v last : ℕ) (link : List Bool) (fs : List Framed) → AllWellFormed t fs → last + length (kept link fs) ≤ 4294967295
-      → offersOf t v last (map (octetsOf t) (kept link fs)) ≡ offered (fates v last link fs)
+      → offersOf t v last (map (sentOctets t) (kept link fs)) ≡ offered (fates v last link fs)
   offers-fates v last [] [] w n = refl
   offers-fates v last (k ∷ link) [] w n = refl
   offers-fates v last [] (f ∷ fs) w n =
@@ -92,7 +92,7 @@ module _ (t : ℕ) where
       let more : eqb last 4294967295 ≡ false = ne-eqb last 4294967295 (λ e. omega arith) in
       let r = reads-back (f .fields) t (f .«data») (f .time) (w .0) in
       sym (passed (eqb last 4294967295) [] _ _ more refl)
-      ∙ ap (λ (l : List Offer). l ++ offersOf t v (last + 1) (map (octetsOf t) (kept link fs))) (offer-is v (last + 1) f r)
+      ∙ ap (λ (l : List Offer). l ++ offersOf t v (last + 1) (map (sentOctets t) (kept link fs))) (offer-is v (last + 1) f r)
       ∙ ap (λ (l : List Offer). when (ofChannel v f) (record { arrival = last + 1; frame = pieceOf f }) ++ l)
       (offers-fates v (last + 1) link fs (w .1) (omega arith))
       ∙ sym (offered-got (ofChannel v f) (last + 1) (pieceOf f) (fates v (last + 1) link fs))

@@ -10,7 +10,7 @@ use lib.Seq.{drop-drop}
 use lib.Dec.{ltb, leb·zero, leb·suc-zero, leb·suc-suc}
 use Rattle.rules.specs.Channel.{Piece, pointerTo}
 use Rattle.rules.specs.Packets.{AllGood, joined}
-use Rattle.delivery.specs.Stream.{heads, firstFrom, Choice, raw, next, nextCount, written}
+use Rattle.delivery.specs.Stream.{heads, firstFrom, Choice, raw, next, nextCount, framesBy}
 
 -- After n more octets: the unsent rest of the begun packet, and the packets not begun.
 abbrev pub restAfter : ℕ → List ℕ → List (List ℕ) → List ℕ
@@ -79,16 +79,16 @@ first-start (suc n) i [] ((x ∷ q) ∷ ps) g =
     let move : i + 0 ≡ i = omega arith in
     rw (leb·suc-suc, leb·zero, move)
 
-pub written-cut : (ps : List (List ℕ)) (cs : List Choice) (o c : ℕ) (r : List ℕ) (qs : List (List ℕ)) → AllGood qs
+pub frames-cut : (ps : List (List ℕ)) (cs : List Choice) (o c : ℕ) (r : List ℕ) (qs : List (List ℕ)) → AllGood qs
     → drop o (joined ps) ≡ r ++ joined qs → drop o (heads ps) ≡ replicate (length r) false ++ heads qs
-    → written ps o c cs ≡ cutInto c r qs cs
-written-cut ps [] o c r qs g e b = refl
-written-cut ps (raw xs ∷ cs) o c r qs g e b = rw (written-cut ps cs o (nextCount c) r qs g e b)
-written-cut ps (next n ∷ cs) o c r qs g e b =
+    → framesBy ps o c cs ≡ cutInto c r qs cs
+frames-cut ps [] o c r qs g e b = refl
+frames-cut ps (raw xs ∷ cs) o c r qs g e b = rw (frames-cut ps cs o (nextCount c) r qs g e b)
+frames-cut ps (next n ∷ cs) o c r qs g e b =
     let ptr : firstFrom 0 (take n (drop o (heads ps))) ≡ pointerTo (length r) (length (take n (r ++ joined qs))) =
     rw b (first-start n 0 r qs g ∙ rw zero-add) in
-    let ih : written ps (o + n) (nextCount c) cs ≡ cutInto (nextCount c) (restAfter n r qs) (packetsAfter n r qs) cs =
-    written-cut ps cs (o + n) (nextCount c) (restAfter n r qs) (packetsAfter n r qs) (rest-good n r qs g)
+    let ih : framesBy ps (o + n) (nextCount c) cs ≡ cutInto (nextCount c) (restAfter n r qs) (packetsAfter n r qs) cs =
+    frames-cut ps cs (o + n) (nextCount c) (restAfter n r qs) (packetsAfter n r qs) (rest-good n r qs g)
     (sym (drop-drop n o (joined ps)) ∙ ap (drop n) e ∙ rest-octets n r qs g)
     (sym (drop-drop n o (heads ps)) ∙ ap (drop n) b ∙ rest-heads n r qs g) in
     rw (ptr, e, ih)

@@ -13,7 +13,7 @@ use Rattle.rules.specs.BothSides.{packetOf}
 use Rattle.session.specs.declared.Opened.{Opened}
 use Rattle.session.specs.declared.OpenAnswer.the-variants as answer
 use Rattle.session.specs.Open.{opened, opening, Opens}
-use Rattle.delivery.specs.Sender.{octetsOf, AllWellFormed, piecesOf, Stream, Sender}
+use Rattle.delivery.specs.Sender.{sentOctets, AllWellFormed, piecesOf, Stream, Sender}
 use Rattle.delivery.specs.Link.{kept, fates}
 use Rattle.delivery.specs.Expected.{expectedLosses, AtMost, mostLost}
 use Rattle.delivery.specs.Delivered.{Report, handed, Delivered}
@@ -81,7 +81,7 @@ unfolding opening pick
 opens = record { session = refl; answers = refl }
 
 abbrev offered : List (List ℕ)
-offered = map (octetsOf 2) (kept losing recording)
+offered = map (sentOctets 2) (kept losing recording)
 
 abbrev reception : Reception
 reception = record {

@@ -9,11 +9,11 @@ use Rattle.answer.specs.declared.Written.{Written}
 use Rattle.answer.specs.declared.Written.the-variants.{Length}
 use Rattle.answer.proofs.Writer.{wrote, one-written}
 use Rattle.frame.specs.Writer.{fieldsWrong}
-use Rattle.delivery.specs.Sender.{octetsOf, WriterGives}
+use Rattle.delivery.specs.Sender.{sentOctets, WriterGives}
 
 pub writer-gives : WriterGives
 writer-gives t f out r out′ right room w =
-    let octets : List ℕ = octetsOf t f in
+    let octets : List ℕ = sentOctets t f in
     let same : _≡_ {A = Written × List ℕ} (r, out′) (Length (length octets), written octets out) =
     one-written w (wrote {said = fieldsWrong (f .fields) t (length (f .«data»)) (length (f .time))} refl right room refl refl) in
     record {

@@ -5,7 +5,7 @@ use mathlib.Core.List.{List, [], _∷_, _++_}
 use lib.ListN.{replicate}
 use Rattle.rules.specs.Channel.{Piece, fresh}
 use Rattle.rules.specs.BothSides.{packetOf, out}
-use Rattle.delivery.specs.Stream.{Choice, raw, next, written}
+use Rattle.delivery.specs.Stream.{Choice, raw, next, framesBy}
 use Rattle.delivery.specs.Expected.{Fate, lost, got, expected, Loss}
 use Rattle.delivery.specs.Delivered.{handed, losses, Delivered}
 use Rattle.delivery.specs.Channels.{offered, run}
@@ -22,7 +22,7 @@ linked (a ∷ numbers) (f ∷ fs) = fate a f ∷ linked numbers fs
 
 -- Packets cut by choices from a first count on, with the link's numbers.
 abbrev pub sentBy : ℕ → List (List ℕ) → List Choice → List ℕ → List Fate
-sentBy count ps choices numbers = linked numbers (written ps 0 count choices)
+sentBy count ps choices numbers = linked numbers (framesBy ps 0 count choices)
 
 abbrev pub two : List (List ℕ)
 two = packetOf 16 1 ∷ packetOf 30 2 ∷ []

@@ -6,7 +6,7 @@ use mathlib.Core.Bool.{Bool}
 use lib.ListN.{length}
 use Rattle.session.specs.declared.Opened.{Opened}
 use Rattle.session.specs.Open.{Opens}
-use Rattle.delivery.specs.Sender.{Framed, octetsOf, Sender}
+use Rattle.delivery.specs.Sender.{Framed, sentOctets, Sender}
 use Rattle.delivery.specs.Link.{kept, fates}
 use Rattle.delivery.specs.Expected.{expectedLosses, AtMost, mostLost}
 use Rattle.delivery.specs.Delivered.{Delivered}
@@ -28,7 +28,7 @@ pub record Reception : Type 0 where
   pub gaps : (v : ℕ) → v < 8 → AtMost mostLost (expectedLosses (fates v last link frames))
   -- The session is offered the rest: the octets that the frame writer gives, each by a call that does what `Session::step` promises.
   pub calls : List Call
-  pub offers : map frameOf calls ≡ map (octetsOf t) (kept link frames)
+  pub offers : map frameOf calls ≡ map (sentOctets t) (kept link frames)
   pub runs : Runs (opened .session) calls
   -- With numbers and room to spare.
   pub numbers : last + length (kept link frames) ≤ 4294967295

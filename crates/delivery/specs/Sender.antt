@@ -12,7 +12,7 @@ use Rattle.frame.specs.declared.Frame.{Frame}
 use Rattle.frame.specs.Writer.{fieldsWrong, frameOctets}
 use Rattle.rules.specs.Channel.{Piece}
 use Rattle.rules.specs.Packets.{AllGood}
-use Rattle.delivery.specs.Stream.{Choice, nextCount, written}
+use Rattle.delivery.specs.Stream.{Choice, nextCount, framesBy}
 
 -- A frame as it is sent: its fields, its data and its time octets.
 pub record Framed : Type 0 where
@@ -21,8 +21,8 @@ pub record Framed : Type 0 where
   pub time : List ℕ
 
 -- What the frame writer gives for it and a time of t octets.
-abbrev pub octetsOf : ℕ → Framed → List ℕ
-octetsOf t f = frameOctets (f .fields) t (f .«data») (f .time)
+abbrev pub sentOctets : ℕ → Framed → List ℕ
+sentOctets t f = frameOctets (f .fields) t (f .«data») (f .time)
 
 -- Which is what `Frame::write` promises of a well-formed frame and an output that is long enough: it answers their number and leaves
 -- them at the output's start.
@@ -32,9 +32,9 @@ pub record Gave (octets : List ℕ) (r : Written) (out′ : List ℕ) : Type 0 w
 
 abbrev pub WriterGives : Type 0
 WriterGives = (t : ℕ) (f : Framed) (out : List ℕ) (r : Written) (out′ : List ℕ)
-    → fieldsWrong (f .fields) t (length (f .«data»)) (length (f .time)) ≡ false → length (octetsOf t f) ≤ length out
-    → Wrote (fieldsWrong (f .fields) t (length (f .«data»)) (length (f .time))) (octetsOf t f) out r out′
-    → Gave (octetsOf t f) r out′
+    → fieldsWrong (f .fields) t (length (f .«data»)) (length (f .time)) ≡ false → length (sentOctets t f) ≤ length out
+    → Wrote (fieldsWrong (f .fields) t (length (f .«data»)) (length (f .time))) (sentOctets t f) out r out′
+    → Gave (sentOctets t f) r out′
 
 -- Well-formed: the writer finds no field out of range. Addresses, telecommand counts and time octets are any.
 abbrev pub AllWellFormed : ℕ → List Framed → Type 0
@@ -70,7 +70,7 @@ pub record Stream (v : ℕ) (frames : List Framed) : Type 0 where
   pub choices : List Choice
   pub first : ℕ
   pub small : first < 256
-  pub sent : piecesOf v frames ≡ written packets 0 first choices
+  pub sent : piecesOf v frames ≡ framesBy packets 0 first choices
 
 -- A sender by the rules: well-formed frames, all of one t, with the master counts of some first one on, and eight such channels.
 pub record Sender (t : ℕ) (frames : List Framed) : Type 0 where

@@ -29,10 +29,10 @@ abbrev pub nextCount : ℕ → ℕ
 nextCount c = (c + 1) % 256
 
 -- The channel's frames by these choices: sent octets of the packets have been sent, and the next count is `count`.
-abbrev pub written : List (List ℕ) → ℕ → ℕ → List Choice → List Piece
-written ps sent count [] = []
-written ps sent count (raw xs ∷ choices) =
-    record { count = count; pointer = 254; octets = xs } ∷ written ps sent (nextCount count) choices
-written ps sent count (next n ∷ choices) =
+abbrev pub framesBy : List (List ℕ) → ℕ → ℕ → List Choice → List Piece
+framesBy ps sent count [] = []
+framesBy ps sent count (raw xs ∷ choices) =
+    record { count = count; pointer = 254; octets = xs } ∷ framesBy ps sent (nextCount count) choices
+framesBy ps sent count (next n ∷ choices) =
     record { count = count; pointer = firstFrom 0 (take n (drop sent (heads ps))); octets = take n (drop sent (joined ps)) }
-    ∷ written ps (sent + n) (nextCount count) choices
+    ∷ framesBy ps (sent + n) (nextCount count) choices

@@ -7,7 +7,7 @@ use lib.ListN.{length}
 use Rattle.frame.specs.declared.Address.{Address}
 use Rattle.rules.specs.Channel.{Piece}
 use Rattle.rules.specs.BothSides.{packetOf, out}
-use Rattle.delivery.specs.Stream.{Choice, raw, next, written}
+use Rattle.delivery.specs.Stream.{Choice, raw, next, framesBy}
 use Rattle.delivery.specs.Sender.{Framed}
 use Rattle.delivery.specs.Link.{fates}
 use Rattle.delivery.specs.Delivered.{handed, losses, Delivered}
@@ -54,7 +54,7 @@ abbrev pub fivePackets : List (List ℕ)
 fivePackets = packetOf 251 4 ∷ two
 
 abbrev pub recording : List Framed
-recording = turns 7 (written two 0 254 zeroChoices) (written fivePackets 0 9 fiveChoices)
+recording = turns 7 (framesBy two 0 254 zeroChoices) (framesBy fivePackets 0 9 fiveChoices)
 
 -- Channel 0 loses its empty frame.
 abbrev pub losing : List Bool

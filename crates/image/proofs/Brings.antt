@@ -19,7 +19,7 @@ use Rattle.report.specs.declared.Content.{Content}
 use Rattle.report.specs.declared.Report.{Report}
 use Rattle.report.proofs.Accepted.{accepted}
 use Rattle.report.proofs.Known.{Kind, a-success, a-failure, a-housekeeping, an-available, a-line}
-use Rattle.image.specs.Placing.{LineFits}
+use Rattle.image.specs.Asked.{LineFits}
 
 either : (s : List ℕ) (b : Bool) (x y : Content) → LineFits x s → (b ≡ false → LineFits y s) → LineFits (pick b x y) s
 unfolding pick

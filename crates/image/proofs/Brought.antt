@@ -22,7 +22,8 @@ use Rattle.report.specs.declared.ReportRead.{ReportRead}
 use Rattle.report.specs.declared.ReportRead.the-variants as read
 use Rattle.report.proofs.Content.{the-type}
 use Rattle.image.specs.Line.{Image, Line, lineOf, heldOtherwise, placed, Fits}
-use Rattle.image.specs.Placing.{Outcome, refused, placing, brought, reported, LineFits, Brings}
+use Rattle.image.specs.Placing.{Outcome, refused, placing, brought, reported}
+use Rattle.image.specs.Asked.{LineFits, Brings}
 
 -- said is whether the line is held with other pixels
 module _ (image : Image) (l : Line) {said : Bool} (e : said ≡ heldOtherwise image (l .line) (l .pixels)) where

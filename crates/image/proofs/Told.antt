@@ -3,7 +3,7 @@ use Prim.Native.Nat.{ℕ}
 use mathlib.Core.Path.{_≡_, ap}
 use mathlib.Core.List.{List}
 use Rattle.answer.proofs.Told.{same-fields, same-refusal, accept-or-refuse, refuse-or-accept}
-use Rattle.image.specs.Placing.{told, Outcome, outcome}
+use Rattle.image.specs.Placing.{told, Outcome, observed}
 use Rattle.image.specs.declared.Placed.{Placed}
 use Rattle.image.specs.declared.Placed.the-variants.{Line, Refused}
 
@@ -14,9 +14,9 @@ told-apart (Line n) (Refused m) h = accept-or-refuse h
 told-apart (Refused n) (Line m) h = refuse-or-accept h
 
 -- the answer, the image and the list of an outcome
-pub one-outcome : {x y : Placed} {p q l m : List ℕ} → outcome x p l ≡ outcome y q m
+pub observed-apart : {x y : Placed} {p q l m : List ℕ} → observed x p l ≡ observed y q m
     → _≡_ {A = Placed × List ℕ × List ℕ} (x, p, l) (y, q, m)
-one-outcome {x} {y} h =
+observed-apart {x} {y} h =
     simp (
       told-apart x y (ap (λ (o : Outcome). o .answer) h),
       ap (λ (o : Outcome). o .image .pixels) h,

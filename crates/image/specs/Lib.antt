@@ -1,3 +1,4 @@
 pub mod Line
 pub mod Placing
+pub mod Asked
 pub mod TwoLines

@@ -1,6 +1,5 @@
 -- Document 01, 'Image and sequence': placing, with its refusals.
-use Prim.Native.Nat.{ℕ, _≤_}
-use mathlib.Core.Path.{_≡_}
+use Prim.Native.Nat.{ℕ}
 use mathlib.Core.Bool.{not, _||_}
 use mathlib.Core.List.{List}
 use lib.ListN.{length}
@@ -21,13 +20,13 @@ abbrev pub told : Placed → Told ℕ
 told (answers.Line n) = accept n
 told (answers.Refused n) = refuse 0 n
 
--- What the call answers, and the image with its line numbers as it leaves them.
+-- What the call answers, and the image with its line numbers as it leaves them: as it is to be, and as a caller observes it.
 pub record Outcome : Type 0 where
   pub answer : Told ℕ
   pub image : Image
 
-abbrev pub outcome : Placed → List ℕ → List ℕ → Outcome
-outcome answer pixels lines = record { answer = told answer; image = imageOf pixels lines }
+abbrev pub observed : Placed → List ℕ → List ℕ → Outcome
+observed answer pixels lines = record { answer = told answer; image = imageOf pixels lines }
 
 -- A refusal: its number, and nothing lent changes.
 abbrev pub refused : ℕ → Image → Outcome
@@ -53,21 +52,7 @@ reported packet arrival wanted image r =
     pick (r .accepted) (brought packet arrival wanted image (r .fields .content)) (refused (r .refusal) image)
 
 -- 40, 43, then the report's 20 to 22, 30, 31 and 32, then 33, 41, 42. No packet has both 33 and 32: of 33 it isn't (128,7), of 32 it is.
-unfoldable pub after : List ℕ → ℕ → ℕ → Image → Outcome
-after packet arrival wanted image =
+unfoldable pub outcome : List ℕ → ℕ → ℕ → Image → Outcome
+outcome packet arrival wanted image =
     pick (ltb (length (image .pixels)) 22560 || ltb (length (image .lines)) 120) (refused imageShort image)
     (pick (eqb arrival 0) (refused noArrival image) (reported packet arrival wanted image (readReport packet)))
-
--- A content that, if it is a line, has its place in the image.
-abbrev pub LineFits : Content → List ℕ → Type 0
-LineFits (content.Line l) packet = (l .line ≤ 119) × (length (pixelsOf packet) ≡ 188)
-LineFits (content.Success c) packet = Unit {0}
-LineFits (content.Failure c) packet = Unit {0}
-LineFits (content.Housekeeping c) packet = Unit {0}
-LineFits (content.Available c) packet = Unit {0}
-
--- Such a content, with an image of 120 lines and a list of as many numbers.
-pub record Brings (c : Content) (packet : List ℕ) (i : Image) : Type 0 where
-  pub fits : LineFits c packet
-  pub image : 22560 ≤ length (i .pixels)
-  pub lines : 120 ≤ length (i .lines)

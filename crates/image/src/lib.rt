@@ -4,7 +4,8 @@ ghost use lib.ListN.{length};
 ghost use Prim.Native.Nat.{_≤_, _<_};
 ghost use mathlib.Core.Bool.{not};
 ghost use Rattle.image.specs.Line.{imageOf, lineOf, same, heldOtherwise, number, placed, Fits};
-ghost use Rattle.image.specs.Placing.{outcome, placing, brought, after, Brings};
+ghost use Rattle.image.specs.Placing.{observed, placing, brought, outcome};
+ghost use Rattle.image.specs.Asked.{Brings};
 use report::Content;
 use report::Report;
 use report::ReportRead;
@@ -69,7 +70,7 @@ fn lay(n: usize, pixels: &[u8], arrival: u32, image: &mut [u8], lines: &mut [u32
 // Places a line, unless it is held with other pixels: refusal 42, and nothing lent changes.
 fn place_line(line: u8, pixels: &[u8], arrival: u32, image: &mut [u8], lines: &mut [u32]) -> Placed
     requires { ⌜ Fits (imageOf (now image) (now lines)) (lineOf line (now pixels) arrival) ⌝ }
-    ensures { λ r. ⌜ outcome r (now (image .exit)) (now (lines .exit)) ≡ placing (imageOf (now (image .entry)) (now (lines .entry))) (lineOf line (now (pixels .entry)) arrival) ⌝ }
+    ensures { λ r. ⌜ observed r (now (image .exit)) (now (lines .exit)) ≡ placing (imageOf (now (image .entry)) (now (lines .entry))) (lineOf line (now (pixels .entry)) arrival) ⌝ }
 {
     let n = line as usize;
     if held_otherwise(n, pixels, image, lines) {
@@ -89,7 +90,7 @@ fn bring(
     lines: &mut [u32],
 ) -> Placed
     requires { ⌜ Brings content (now packet) (imageOf (now image) (now lines)) ⌝ }
-    ensures { λ r. ⌜ outcome r (now (image .exit)) (now (lines .exit)) ≡ brought (now (packet .entry)) arrival wanted (imageOf (now (image .entry)) (now (lines .entry))) content ⌝ }
+    ensures { λ r. ⌜ observed r (now (image .exit)) (now (lines .exit)) ≡ brought (now (packet .entry)) arrival wanted (imageOf (now (image .entry)) (now (lines .entry))) content ⌝ }
 {
     let Content::Line(l) = content else {
         return Placed::Refused(answer::NOT_LINE);
@@ -109,7 +110,7 @@ pub fn place(
     image: &mut [u8],
     lines: &mut [u32],
 ) -> Placed
-    ensures { λ r. ⌜ outcome r (now (image .exit)) (now (lines .exit)) ≡ after (now (packet .entry)) arrival wanted (imageOf (now (image .entry)) (now (lines .entry))) ⌝ }
+    ensures { λ r. ⌜ observed r (now (image .exit)) (now (lines .exit)) ≡ outcome (now (packet .entry)) arrival wanted (imageOf (now (image .entry)) (now (lines .entry))) ⌝ }
 {
     if (image.len() < 22560) | (lines.len() < 120) {
         return Placed::Refused(answer::IMAGE_SHORT);

@@ -21,21 +21,21 @@ told (Refused n) = refuse 0 n
 unfoldable pub since : ℕ → ℕ → Told ℕ
 since held count = pick (eqb held 0) (accept 0) (accept (gap 16384 count (held - 1)))
 
--- What the call answers, and the list as it leaves it.
+-- What the call answers, and the list as it leaves it: as it is to be, and as a caller observes it.
 pub record Outcome : Type 0 where
   pub answer : Told ℕ
   pub list : List ℕ
 
-abbrev pub outcome : Gap → List ℕ → Outcome
-outcome answer list = record { answer = told answer; list = list }
+abbrev pub observed : Gap → List ℕ → Outcome
+observed answer list = record { answer = told answer; list = list }
 
 -- A refusal: its number, and the list stays.
 abbrev pub refused : ℕ → List ℕ → Outcome
 refused n list = record { answer = refuse 0 n; list = list }
 
 -- Refusals 44, 46, 45, and the list stays; else the gap, and that APID's entry becomes count + 1.
-unfoldable pub after : ℕ → ℕ → List ℕ → Outcome
-after apid count list =
+unfoldable pub outcome : ℕ → ℕ → List ℕ → Outcome
+outcome apid count list =
     pick (ltb (length list) 2048) (refused listShort list)
     (pick (ltb 2047 apid || ltb 16383 count) (refused countRange list)
     (pick (ltb 16384 (at list apid)) (refused entry list)

@@ -1,7 +1,7 @@
 // The sequence gap of each APID over a lent list of its last counts.
 use counts::SequenceCount;
 ghost use mathlib.Core.Path.{_≡_};
-ghost use Rattle.sequence.specs.Sequence.{told, since, outcome, after};
+ghost use Rattle.sequence.specs.Sequence.{told, since, observed, outcome};
 
 // What the source sequence count of one APID tells: how many packets are missing, or the refusal's number.
 pub enum Gap {
@@ -21,7 +21,7 @@ fn since(count: SequenceCount, entry: u16) -> Gap
 
 // How many of the APID's packets are missing before this one; the APID's entry becomes count + 1. All else stays, and on a refusal the entry too.
 pub fn missing(apid: u16, count: SequenceCount, list: &mut [u16]) -> Gap
-    ensures { λ r. ⌜ outcome r (now (list .exit)) ≡ after apid (count .0) (now (list .entry)) ⌝ }
+    ensures { λ r. ⌜ observed r (now (list .exit)) ≡ outcome apid (count .0) (now (list .entry)) ⌝ }
 {
     if list.len() < 2048 {
         return Gap::Refused(answer::LIST_SHORT);

@@ -7,7 +7,7 @@ use borrow.Author.Tests.{eq-eqb, ne-eqb, ltb-false}
 use Rattle.octets.proofs.Choices.{picked, passed}
 use Rattle.octets.proofs.Tests.{or-left, or-right}
 use Rattle.report.specs.Report.{told}
-use Rattle.image.specs.Placing.{after}
+use Rattle.image.specs.Placing.{outcome}
 use Rattle.image.proofs.Brings.{fits}
 use Rattle.image.proofs.Brought.{report-accepted, report-refused}
 use borrow.Author.Needs.{needs}
@@ -15,11 +15,11 @@ use Rattle.image.proofs.place.Statement.{statement}
 use Rattle.image.proofs.place.Tie as tie
 
 returns : tie.Need-returns
-unfolding after
+unfolding outcome
 returns c = picked _ _ _ (c .if1 .taken)
 
 returns-2 : tie.Need-returns-2
-unfolding after
+unfolding outcome
 returns-2 c = passed _ _ _ _ (c .before .if1 .left) (picked _ _ _ (eq-eqb _ _ (c .if2 .taken)))
 
 bring-requires : tie.Need-bring-requires
@@ -36,7 +36,7 @@ bring-requires c κs =
     }
 
 returns-3 : tie.Need-returns-3
-unfolding after
+unfolding outcome
 returns-3 c =
     let m = c .before .before .before .before .before .before .before .before in
     let t = m .before .before .before in
@@ -45,7 +45,7 @@ returns-3 c =
     (report-accepted _ _ _ _ (m .before .before .read .ensures) (m .report .given .1) (c .before .before .before .before .bring .ensures)))
 
 returns-4 : tie.Need-returns-4
-unfolding after
+unfolding outcome
 returns-4 c =
     let t = c .before .before .before .before in
     passed _ _ _ _ (t .before .if1 .left)

@@ -6,16 +6,16 @@ use borrow.Author.Needs.{needs}
 use borrow.Author.Tests.{lt-ltb, le-ltb}
 use Rattle.octets.proofs.Choices.{picked, passed}
 use Rattle.octets.proofs.Tests.{facts}
-use Rattle.sequence.specs.Sequence.{after}
+use Rattle.sequence.specs.Sequence.{outcome}
 use Rattle.sequence.proofs.missing.Statement.{statement}
 use Rattle.sequence.proofs.missing.Tie as tie
 
 returns : tie.Need-returns
-unfolding after
+unfolding outcome
 returns c = picked _ _ _ (lt-ltb _ _ (c .if1 .taken))
 
 returns-2 : tie.Need-returns-2
-unfolding after
+unfolding outcome
 returns-2 c = passed _ _ _ _ (le-ltb _ _ (c .before .before .if1 .left)) (picked _ _ _ (c .if2 .taken))
 
 slice-read-entry : tie.Need-slice-read-entry
@@ -24,7 +24,7 @@ slice-read-entry c =
     omega arith
 
 returns-3 : tie.Need-returns-3
-unfolding after
+unfolding outcome
 returns-3 c =
     passed _ _ _ _ (le-ltb _ _ (c .before .before .before .before .if1 .left))
     (passed _ _ _ _ (c .before .before .if2 .left) (picked _ _ _ (lt-ltb _ _ (c .if3 .taken))))
@@ -40,7 +40,7 @@ slice-write-list c =
     omega arith
 
 returns-4 : tie.Need-returns-4
-unfolding after
+unfolding outcome
 returns-4 c =
     passed _ _ _ _ (le-ltb _ _ (c .before .before .before .before .before .before .if1 .left))
     (passed _ _ _ _ (c .before .before .before .before .if2 .left)
