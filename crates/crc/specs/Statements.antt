@@ -8,24 +8,24 @@ use Rattle.octets.specs.Numbers.{at}
 use Rattle.crc.specs.Check.{plus, zeros, ones, run, Order, numberOf, check, packetCheck, frameCheck, octetsOf, wordIn}
 use Rattle.crc.specs.Check.Order.{highFirst, lowFirst}
 
--- octets, and behind them their own check
+-- Octets, and behind them their own check.
 abbrev pub withCheck : Order → List Bool → List ℕ → List ℕ
 withCheck o mask octets = octets ++ octetsOf o (check o mask octets)
 
--- all but the last two
+-- All but the last two.
 abbrev pub before : List ℕ → List ℕ
 before octets = take (length octets - 2) octets
 
--- the last two octets are the check of those before them: what a reader tests
+-- The last two octets are the check of those before them: what a reader tests.
 abbrev pub EndsInCheck : Order → List Bool → List ℕ → Type 0
 EndsInCheck o mask octets = wordIn o (at octets (length octets - 2)) (at octets (length octets - 1)) ≡ check o mask (before octets)
 
--- two octets at least
+-- Two octets at least.
 pub record Octets (octets : List ℕ) : Type 0 where
   pub small : (i : ℕ) → at octets i < 256
   pub two : 2 ≤ length octets
 
--- what the check gives over octets with their own check behind them
+-- What the check gives over octets with their own check behind them.
 unfoldable pub residue : Order → List Bool → ℕ
 residue o mask = numberOf o (plus (run (zeros 16) mask) mask)
 
