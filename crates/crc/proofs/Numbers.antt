@@ -3,18 +3,18 @@ use mathlib.Core.Path.{_≡_, refl, sym, ap, ap₂, _∙_, subst}
 use mathlib.Core.Bool.{Bool, true, false}
 use mathlib.Core.List.{List, [], _∷_, _++_, reverse, reverse-append, reverse-reverse, reverse-cons}
 use Prim.Native.Nat.{ℕ, zero, suc, _+_, _*_, _/_, _%_, _^_, _<_}
-use native.Mathlib.Nat.{suc-inj, suc-ne-zero, le-of-suc-le-suc, not-suc-le-zero, mod-lt, zero-lt-suc, suc-add, zero-add, div-add-mod', div-one, le-refl, pow-suc}
+use native.Mathlib.Nat.{suc-inj, suc-ne-zero, le-of-suc-le-suc, not-suc-le-zero, mod-lt, zero-lt-suc, suc-add, zero-add, div-add-mod', div-one, le-refl, pow-suc, mul-mod-left, mul-div-cancel}
 use native.Mathlib.Numerals.{add-one}
 use lib.ListN.{length, length-reverse}
 use lib.Dec.{eqb}
 use lib.Arith.{digits-lt, digits-div, digits-mod, lt-one}
-use lib.Pow.{shr-lt, shr-shr, field, mod-mod-pow}
+use lib.Pow.{pow-pos, shr-lt, shr-shr, field, mod-mod-pow}
 use lib.Bits.{bitXor, xor-shr, xor-mod}
 use Rattle.crc.specs.Check.{_⊕_, plus, zeros, Order, ordered, odd, digit, digitsOf, valueOf, bitsOf, numberOf}
 use Rattle.crc.specs.Check.Order.{highFirst, lowFirst}
 use Rattle.crc.proofs.Rows.{plus-append}
 
-two : zero < 2
+pub two : zero < 2
 two = zero-lt-suc 1
 
 -- ---- the order
@@ -96,6 +96,21 @@ digits-cut (suc j) n =
 pub digits-zero : (k : ℕ) → digitsOf k 0 ≡ zeros k
 digits-zero zero = refl
 digits-zero (suc k) = ap (λ (r : List Bool). false ∷ r) (digits-zero k)
+
+-- of a number that has k digits at most
+pub digits-small : (k m n : ℕ) → n < 2 ^ k → digitsOf (k + m) n ≡ digitsOf k n ++ zeros m
+digits-small k m n h =
+    digits-append k m n
+    ∙ ap (λ (r : List Bool). digitsOf k n ++ r)
+    (ap (digitsOf m) (lt-one (shr-lt 0 k (subst (λ (i : ℕ). n < 2 ^ i) (sym (zero-add k)) h))) ∙ digits-zero m)
+
+-- of a number shifted to the left by j
+pub digits-left : (j k n : ℕ) → digitsOf (j + k) (n * 2 ^ j % 2 ^ (j + k)) ≡ zeros j ++ digitsOf k n
+digits-left j k n =
+    digits-cut (j + k) (n * 2 ^ j) ∙ digits-append j k (n * 2 ^ j)
+    ∙ ap₂ (λ (p q : List Bool). p ++ q)
+    (sym (digits-cut j (n * 2 ^ j)) ∙ ap (digitsOf j) (mul-mod-left n (2 ^ j)) ∙ digits-zero j)
+    (ap (digitsOf k) (mul-div-cancel n (pow-pos j)))
 
 -- there and back
 

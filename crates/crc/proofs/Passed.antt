@@ -1,4 +1,4 @@
--- A loop over octets by a table of 256 words.
+-- A loop over octets, one at a time.
 use mathlib.Core.Path.{_≡_, refl, sym, ap, _∙_}
 use mathlib.Core.Bool.{Bool}
 use mathlib.Core.List.{List}
@@ -8,44 +8,26 @@ use lib.ListN.{length, getD, take}
 use lib.Seq.{take-all}
 use lib.Bits.{bitXor, xor-lt}
 use lib.Dec.{T, eqb, eqb→eq}
-use Rattle.crc.specs.Check.{plus, Order, bitsOf, numberOf, register, check}
+use Rattle.crc.specs.Check.{plus, run, Order, bitsOf, numberOf, register, check}
 use Rattle.crc.proofs.Numbers.{number-bits, bits-xor}
 use Rattle.crc.proofs.Octets.{register-more}
 use Rattle.crc.proofs.Turn.{first, rest, place-lt, Holds, holds-ones, tableWord, holds-turn}
 use Rattle.crc.proofs.Table.{every, at}
 
--- the test of a table: each word is what the register has after the bits of its place, from all zeros
-unfoldable pub right : Order → ℕ → ℕ → Bool
-right o k x = eqb x (tableWord o 8 k)
-
--- i octets have passed, by a table that is right
-pub record Passed (o : Order) (table octets : List ℕ) (i s : ℕ) : Type 0 where
-  pub words : T (every (right o) 0 table)
+-- i octets have passed: the number s has the register's bits
+pub record Passed (o : Order) (octets : List ℕ) (i s : ℕ) : Type 0 where
   pub holds : Holds o s (register o (take i octets))
 
-pub passed-none : (o : Order) (table octets : List ℕ) → T (every (right o) 0 table) → Passed o table octets 0 0xffff
-passed-none o table octets t = record { words = t; holds = holds-ones o }
-
--- the place in the table that the number s and the octet x say
-abbrev pub placeOf : Order → ℕ → ℕ → ℕ
-placeOf o s x = bitXor (first o 8 8 s) x
-
-module _ {o : Order} {table octets : List ℕ} {i s : ℕ} (p : Passed o table octets i s) where
-  pub place : getD octets i 0 < 256 → placeOf o s (getD octets i 0) < 256
-  place h = place-lt o 8 8 s (getD octets i 0) (p .holds .fits) h
-
+module _ {o : Order} {octets : List ℕ} {i s : ℕ} (p : Passed o octets i s) where
   -- one more
-  pub passed-more : length table ≡ 256 → i < length octets → getD octets i 0 < 256
-      → Passed o table octets (i + 1) (bitXor (getD table (placeOf o s (getD octets i 0)) 0) (rest o 8 8 s))
-  unfolding right
-  passed-more n h b =
-      let k : ℕ = placeOf o s (getD octets i 0) in
-      let found : getD table k 0 ≡ tableWord o 8 k = eqb→eq _ _ (at (right o) table (p .words) k (omega (arith, place b))) in
+  pub passed-more : {t : ℕ} → i < length octets → Holds o t (run (bitsOf o 16 s) (bitsOf o 8 (getD octets i 0))) → Passed o octets (i + 1) t
+  passed-more h q =
       record {
-        words = p .words;
         holds =
-            rw (register-more o octets i h)
-            (holds-turn o 8 8 s (getD octets i 0) (getD table k 0) (register o (take i octets)) refl (p .holds) found);
+            record {
+              fits = q .fits;
+              bits = q .bits ∙ ap (λ (r : List Bool). run r (bitsOf o 8 (getD octets i 0))) (p .holds .bits) ∙ sym (register-more o octets i h);
+            };
       }
 
   -- all have: the check is the number, with the mask m added
@@ -56,3 +38,34 @@ module _ {o : Order} {table octets : List ℕ} {i s : ℕ} (p : Passed o table o
       ∙ ap (numberOf o)
       (bits-xor o 16 s m
       ∙ ap (λ (r : List Bool). plus r (bitsOf o 16 m)) (p .holds .bits ∙ ap (register o) (take-all i octets h)))
+
+-- ---- by a table of 256 words
+
+-- the test of a table: each word is what the register has after the bits of its place, from all zeros
+unfoldable pub right : Order → ℕ → ℕ → Bool
+right o k x = eqb x (tableWord o 8 k)
+
+-- i octets have passed, by a table that is right
+pub record Tabled (o : Order) (table octets : List ℕ) (i s : ℕ) : Type 0 where
+  pub words : T (every (right o) 0 table)
+  pub passed : Passed o octets i s
+
+pub tabled-none : (o : Order) (table octets : List ℕ) → T (every (right o) 0 table) → Tabled o table octets 0 0xffff
+tabled-none o table octets t = record { words = t; passed = record { holds = holds-ones o } }
+
+-- the place in the table that the number s and the octet x say
+abbrev pub placeOf : Order → ℕ → ℕ → ℕ
+placeOf o s x = bitXor (first o 8 8 s) x
+
+module _ {o : Order} {table octets : List ℕ} {i s : ℕ} (p : Tabled o table octets i s) where
+  pub place : getD octets i 0 < 256 → placeOf o s (getD octets i 0) < 256
+  place h = place-lt o 8 8 s (getD octets i 0) (p .passed .holds .fits) h
+
+  -- one more
+  pub tabled-more : length table ≡ 256 → i < length octets → getD octets i 0 < 256
+      → Tabled o table octets (i + 1) (bitXor (getD table (placeOf o s (getD octets i 0)) 0) (rest o 8 8 s))
+  unfolding right
+  tabled-more n h b =
+      let k : ℕ = placeOf o s (getD octets i 0) in
+      let found : getD table k 0 ≡ tableWord o 8 k = eqb→eq _ _ (at (right o) table (p .words) k (omega (arith, place b))) in
+      record { words = p .words; passed = passed-more (p .passed) h (holds-turn o 8 8 s (getD octets i 0) (getD table k 0) refl (p .passed .holds .fits) found) }

@@ -63,7 +63,7 @@ run-plus r s (a ∷ cs) (b ∷ bs) h k e =
     ∙ run-plus (step r a) (step s b) cs bs (length-step r a h) (length-step s b k) (suc-inj e)
 
 -- the part r of a register runs by itself, over zeros
-apart : (r s bs : List Bool) (n : ℕ) → length r ≡ 16 → length s ≡ 16 → length bs ≡ n → run (plus r s) bs ≡ plus (run r (zeros n)) (run s bs)
+pub apart : (r s bs : List Bool) (n : ℕ) → length r ≡ 16 → length s ≡ 16 → length bs ≡ n → run (plus r s) bs ≡ plus (run r (zeros n)) (run s bs)
 apart r s bs n h k e =
     ap (run (plus r s)) (sym (ap (λ (m : ℕ). plus (zeros m) bs) (sym e) ∙ zeros-plus bs))
     ∙ run-plus r s (zeros n) bs h k (length-zeros n ∙ sym e)

@@ -1,18 +1,17 @@
 -- The register as a number, and a turn of j bits through it by a table of 2 ^ j words.
 use mathlib.Core.Path.{_≡_, refl, sym, ap, ap₂, _∙_, subst}
 use mathlib.Core.Bool.{Bool, false}
-use mathlib.Core.List.{List, [], _∷_, _++_, reverse, reverse-cons}
+use mathlib.Core.List.{List, [], _∷_, _++_, reverse, reverse-append, reverse-cons}
 use Prim.Native.Nat.{ℕ, zero, suc, _+_, _*_, _/_, _%_, _^_, _<_}
-use native.Mathlib.Nat.{mul-mod-left, mul-div-cancel, mod-lt, div-le-self, lt-of-le-of-lt, add-comm, zero-add}
+use native.Mathlib.Nat.{mod-lt, div-le-self, lt-of-le-of-lt, add-comm}
 use lib.ListN.{length}
 use lib.Pow.{pow-pos, shr-lt}
 use lib.Bits.{bitXor, xor-lt}
-use lib.Arith.{lt-one}
 use lib.Dec.{lit<}
-use Rattle.crc.specs.Check.{plus, zeros, ones, run, Order, bitsOf, numberOf}
+use Rattle.crc.specs.Check.{plus, zeros, ones, run, Order, digitsOf, bitsOf, numberOf}
 use Rattle.crc.specs.Check.Order.{highFirst, lowFirst}
 use Rattle.crc.proofs.Register.{split, length-run}
-use Rattle.crc.proofs.Numbers.{bits-number, number-lt, length-bits, bits-xor, bits-cut, bits-high, bits-low, digits-zero}
+use Rattle.crc.proofs.Numbers.{bits-number, number-lt, length-bits, bits-xor, bits-cut, bits-high, bits-low, digits-left, digits-small}
 
 -- ---- the j bits of a number of k + j bits that travel first, the other k, and the number when the first have gone
 
@@ -42,22 +41,12 @@ reverse-zeros : (n : ℕ) → reverse (zeros n) ≡ zeros n
 reverse-zeros zero = refl
 reverse-zeros (suc n) = reverse-cons false (zeros n) ∙ ap (λ (r : List Bool). r ++ (false ∷ [])) (reverse-zeros n) ∙ zeros-snoc n
 
-bits-zero : (o : Order) (k : ℕ) → bitsOf o k 0 ≡ zeros k
-bits-zero highFirst k = ap reverse (digits-zero k) ∙ reverse-zeros k
-bits-zero lowFirst k = digits-zero k
-
 bits-rest : (o : Order) (k j s : ℕ) → s < 2 ^ (k + j) → bitsOf o (k + j) (rest o k j s) ≡ bitsOf o k (second o k j s) ++ zeros j
 bits-rest highFirst k j s h =
-    bits-cut highFirst (k + j) (s * 2 ^ j)
-    ∙ ap (λ (n : ℕ). bitsOf highFirst n (s * 2 ^ j)) (add-comm k j) ∙ bits-high j k (s * 2 ^ j)
-    ∙ ap₂ (λ (x y : List Bool). x ++ y)
-    (ap (bitsOf highFirst k) (mul-div-cancel s (pow-pos j)) ∙ sym (bits-cut highFirst k s))
-    (sym (bits-cut highFirst j (s * 2 ^ j)) ∙ ap (bitsOf highFirst j) (mul-mod-left s (2 ^ j)) ∙ bits-zero highFirst j)
-bits-rest lowFirst k j s h =
-    bits-low k j (s / 2 ^ j)
-    ∙ ap (λ (r : List Bool). bitsOf lowFirst k (s / 2 ^ j) ++ r)
-    (ap (bitsOf lowFirst j) (lt-one (shr-lt 0 k (subst (λ (n : ℕ). s / 2 ^ j < 2 ^ n) (sym (zero-add k)) (shr-lt k j h))))
-    ∙ bits-zero lowFirst j)
+    ap (λ (n : ℕ). bitsOf highFirst n (s * 2 ^ j % 2 ^ n)) (add-comm k j)
+    ∙ ap reverse (digits-left j k s) ∙ reverse-append (zeros j) (digitsOf k s)
+    ∙ ap₂ (λ (x y : List Bool). x ++ y) (sym (bits-cut highFirst k s)) (reverse-zeros j)
+bits-rest lowFirst k j s h = digits-small k j (s / 2 ^ j) (shr-lt k j h)
 
 rest-lt : (o : Order) (k j s : ℕ) → s < 2 ^ (k + j) → rest o k j s < 2 ^ (k + j)
 rest-lt highFirst k j s h = mod-lt (s * 2 ^ j) (pow-pos (k + j))
@@ -94,9 +83,9 @@ word o j n =
     r = run (zeros 16) (bitsOf o j n)
 
 -- a turn of the j bits of b; the word at the place that the first j bits of s and b say is t
-pub holds-turn : (o : Order) (k j s b t : ℕ) (r : List Bool) → k + j ≡ 16 → Holds o s r
-    → t ≡ tableWord o j (bitXor (first o k j s) b) → Holds o (bitXor t (rest o k j s)) (run r (bitsOf o j b))
-holds-turn o k j s b t r w p e =
+pub holds-turn : (o : Order) (k j s b t : ℕ) → k + j ≡ 16 → s < 2 ^ 16
+    → t ≡ tableWord o j (bitXor (first o k j s) b) → Holds o (bitXor t (rest o k j s)) (run (bitsOf o 16 s) (bitsOf o j b))
+holds-turn o k j s b t w h e =
     record {
       fits =
           xor-lt 16 t (rest o k j s)
@@ -111,14 +100,14 @@ holds-turn o k j s b t r w p e =
           ∙ sym (split (bitsOf o j (first o k j s)) (bitsOf o j b) (bitsOf o k (second o k j s))
           (length-bits o j (first o k j s) ∙ sym (length-bits o j b))
           (ap length (sym two) ∙ length-bits o 16 s))
-          ∙ ap (λ (q : List Bool). run q (bitsOf o j b)) (sym two ∙ p .bits);
+          ∙ ap (λ (q : List Bool). run q (bitsOf o j b)) (sym two);
     }
   where
     at : ℕ
     at = bitXor (first o k j s) b
 
     wide : s < 2 ^ (k + j)
-    wide = subst (λ (n : ℕ). s < 2 ^ n) (sym w) (p .fits)
+    wide = subst (λ (n : ℕ). s < 2 ^ n) (sym w) h
 
     two : bitsOf o 16 s ≡ bitsOf o j (first o k j s) ++ bitsOf o k (second o k j s)
     two = ap (λ (n : ℕ). bitsOf o n s) (sym w) ∙ bits-two o k j s

@@ -1,36 +1,26 @@
 -- `crc::frame_check` meets its contract. The loop's invariant: `crc` has the register's bits after the octets passed.
-use mathlib.Core.Path.{refl}
-use Prim.Native.Nat.{_-_, _<_}
+use Prim.Native.Nat.{_-_}
 use native.Mathlib.Omega.{arith}
 use lib.Dec.{lit<}
-use lib.ListN.{length, getD}
+use lib.ListN.{length}
 use Rattle.crc.specs.Check.Order.{lowFirst}
-use Rattle.crc.proofs.Turn.{tableWord}
-use Rattle.crc.proofs.Passed.{right, Passed, placeOf, passed-none, place, passed-more, passed-all}
+use Rattle.crc.proofs.Passed.{Passed, passed-more, passed-all}
 use Rattle.crc.proofs.frame_check.Statement.{statement}
 use Rattle.crc.proofs.frame_check.Tie as tie
 
 abbrev Inv-loop : tie.InvT-loop
-Inv-loop octets table crc₀ i₀ crc i = Passed lowFirst table octets i crc
+Inv-loop octets crc₀ i₀ crc i = Passed lowFirst octets i crc
 
 abbrev μ-loop : tie.MeasureT-loop
-μ-loop octets table crc₀ i₀ crc i = length octets - i
-
--- the next octet, and its place in the table
-octet : (c : tie.After-shared-slice-known Inv-loop μ-loop)
-    → getD (c .before .before .before .args .octets .now) (c .before .before .loop .i) 0 < 256
-octet c = omega (arith, c .shared-slice-known .given (c .before .before .loop .i))
-
-inside : (c : tie.After-shared-slice-known Inv-loop μ-loop)
-    → placeOf lowFirst (c .before .before .loop .crc) (getD (c .before .before .before .args .octets .now) (c .before .before .loop .i) 0) < 256
-inside c = place (c .before .before .loop .inv) (octet c)
+μ-loop octets crc₀ i₀ crc i = length octets - i
 
 loop-holds : tie.Need-loop-holds Inv-loop μ-loop
-unfolding right tableWord
-loop-holds c = passed-none lowFirst _ _ tt
+loop-holds c = record { holds = record { fits = omega arith; bits = c .low-eights .ensures } }
 
 loop-again : tie.Need-loop-again Inv-loop μ-loop
-loop-again c = passed-more (c .before .before .loop .inv) refl (c .before .loop-test .taken) (octet c)
+loop-again c =
+    passed-more (c .before .before .before .loop .inv) (c .before .before .loop-test .taken)
+    (record { fits = omega arith; bits = c .low-octet .ensures })
 
 returns : tie.Need-returns Inv-loop μ-loop
 returns c = passed-all (c .before .loop .inv) 0xffff (c .loop-test .left) (lit< tt)
@@ -38,7 +28,8 @@ returns c = passed-all (c .before .loop .inv) 0xffff (c .loop-test .left) (lit< 
 pub frame-check-spec : {M : Type 1} → statement M
 frame-check-spec =
     tie.close
-    (tie.spec Inv-loop μ-loop loop-holds
-    (λ c. omega arith) (λ c. omega (arith, octet c)) (λ c. omega (arith, inside c)) (λ c. omega (arith, inside c)) (λ c. inside c)
-    (λ c. omega arith) (λ c. omega arith)
+    (tie.spec Inv-loop μ-loop
+    (λ c κs. tt) (λ c. omega arith)
+    loop-holds
+    (λ c. omega arith) (λ c κs. tt) (λ c. omega arith) (λ c. omega arith)
     loop-again returns)

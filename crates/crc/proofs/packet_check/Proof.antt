@@ -7,12 +7,12 @@ use lib.ListN.{length, getD}
 use lib.Bits.{xor-zero-r}
 use Rattle.crc.specs.Check.Order.{highFirst}
 use Rattle.crc.proofs.Turn.{tableWord}
-use Rattle.crc.proofs.Passed.{right, Passed, placeOf, passed-none, place, passed-more, passed-all}
+use Rattle.crc.proofs.Passed.{passed-all, right, Tabled, tabled-none, placeOf, place, tabled-more}
 use Rattle.crc.proofs.packet_check.Statement.{statement}
 use Rattle.crc.proofs.packet_check.Tie as tie
 
 abbrev Inv-loop : tie.InvT-loop
-Inv-loop octets table crc₀ i₀ crc i = Passed highFirst table octets i crc
+Inv-loop octets table crc₀ i₀ crc i = Tabled highFirst table octets i crc
 
 abbrev μ-loop : tie.MeasureT-loop
 μ-loop octets table crc₀ i₀ crc i = length octets - i
@@ -28,13 +28,13 @@ inside c = place (c .before .before .loop .inv) (octet c)
 
 loop-holds : tie.Need-loop-holds Inv-loop μ-loop
 unfolding right tableWord
-loop-holds c = passed-none highFirst _ _ tt
+loop-holds c = tabled-none highFirst _ _ tt
 
 loop-again : tie.Need-loop-again Inv-loop μ-loop
-loop-again c = passed-more (c .before .before .loop .inv) refl (c .before .loop-test .taken) (octet c)
+loop-again c = tabled-more (c .before .before .loop .inv) refl (c .before .loop-test .taken) (octet c)
 
 returns : tie.Need-returns Inv-loop μ-loop
-returns c = sym (xor-zero-r (c .before .loop .crc)) ∙ passed-all (c .before .loop .inv) 0 (c .loop-test .left) (lit< tt)
+returns c = sym (xor-zero-r (c .before .loop .crc)) ∙ passed-all (c .before .loop .inv .passed) 0 (c .loop-test .left) (lit< tt)
 
 pub packet-check-spec : {M : Type 1} → statement M
 packet-check-spec =
