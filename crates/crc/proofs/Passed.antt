@@ -1,17 +1,19 @@
 -- A loop over octets, one at a time.
-use mathlib.Core.Path.{_≡_, refl, sym, ap, _∙_}
+use mathlib.Core.Path.{_≡_, refl, sym, ap, subst, subst⁻¹, _∙_}
 use mathlib.Core.Bool.{Bool}
 use mathlib.Core.List.{List}
-use Prim.Native.Nat.{ℕ, _+_, _^_, _≤_, _<_}
+use Prim.Native.Nat.{ℕ, _+_, _*_, _/_, _%_, _^_, _≤_, _<_}
+use native.Mathlib.Nat.{mod-eq-of-lt}
 use native.Mathlib.Omega.{arith}
 use lib.ListN.{length, getD, take}
 use lib.Seq.{take-all}
-use lib.Bits.{bitXor, xor-lt}
+use lib.Bits.{bitXor, xor-lt, xor-mod}
 use lib.Dec.{T, eqb, eqb→eq}
 use Rattle.crc.specs.Check.{plus, run, Order, bitsOf, numberOf, register, check}
+use Rattle.crc.specs.Check.Order.{highFirst}
 use Rattle.crc.proofs.Numbers.{number-bits, bits-xor}
 use Rattle.crc.proofs.Octets.{register-more}
-use Rattle.crc.proofs.Turn.{first, rest, place-lt, Holds, holds-ones, tableWord, holds-turn}
+use Rattle.crc.proofs.Turn.{first, rest, place-lt, Holds, holds-ones, tableWord, word, holds-turn}
 use Rattle.crc.proofs.Table.{every, at}
 
 -- i octets have passed: the number s has the register's bits
@@ -61,11 +63,49 @@ module _ {o : Order} {table octets : List ℕ} {i s : ℕ} (p : Tabled o table o
   pub place : getD octets i 0 < 256 → placeOf o s (getD octets i 0) < 256
   place h = place-lt o 8 8 s (getD octets i 0) (p .passed .holds .fits) h
 
+  found : length table ≡ 256 → getD octets i 0 < 256
+      → getD table (placeOf o s (getD octets i 0)) 0 ≡ tableWord o 8 (placeOf o s (getD octets i 0))
+  unfolding right
+  found n b = eqb→eq _ _ (at (right o) table (p .words) (placeOf o s (getD octets i 0)) (omega (arith, place b)))
+
+  pub table-word : length table ≡ 256 → getD octets i 0 < 256 → getD table (placeOf o s (getD octets i 0)) 0 < 2 ^ 16
+  table-word n b = subst⁻¹ (λ (t : ℕ). t < 2 ^ 16) (found n b) (word o 8 (placeOf o s (getD octets i 0)) .fits)
+
   -- one more
   pub tabled-more : length table ≡ 256 → i < length octets → getD octets i 0 < 256
       → Tabled o table octets (i + 1) (bitXor (getD table (placeOf o s (getD octets i 0)) 0) (rest o 8 8 s))
-  unfolding right
   tabled-more n h b =
-      let k : ℕ = placeOf o s (getD octets i 0) in
-      let found : getD table k 0 ≡ tableWord o 8 k = eqb→eq _ _ (at (right o) table (p .words) k (omega (arith, place b))) in
-      record { words = p .words; passed = passed-more (p .passed) h (holds-turn o 8 8 s (getD octets i 0) (getD table k 0) refl (p .passed .holds .fits) found) }
+      record {
+        words = p .words;
+        passed = passed-more (p .passed) h
+            (holds-turn o 8 8 s (getD octets i 0) (getD table (placeOf o s (getD octets i 0)) 0) refl (p .passed .holds .fits) (found n b));
+      }
+
+-- ---- by a register that is the low 16 bits of a wider number
+
+module _ {table octets : List ℕ} {i : ℕ} (w : ℕ) (p : Tabled highFirst table octets i (w % 65536)) where
+  same-place : placeOf highFirst (w % 65536) (getD octets i 0) ≡ bitXor (w / 256 % 256) (getD octets i 0)
+  same-place =
+      let high : w % 65536 / 256 ≡ w / 256 % 256 = omega arith in
+      ap (λ (k : ℕ). bitXor k (getD octets i 0)) high
+
+  pub wide-place : getD octets i 0 < 256 → bitXor (w / 256 % 256) (getD octets i 0) < 256
+  wide-place b = subst (λ (k : ℕ). k < 256) same-place (place p b)
+
+  pub wide-word : length table ≡ 256 → getD octets i 0 < 256 → getD table (bitXor (w / 256 % 256) (getD octets i 0)) 0 < 2 ^ 16
+  wide-word n b = subst (λ (k : ℕ). getD table k 0 < 2 ^ 16) same-place (table-word p n b)
+
+  pub wide-more : length table ≡ 256 → i < length octets → getD octets i 0 < 256
+      → Tabled highFirst table octets (i + 1) (bitXor (getD table (bitXor (w / 256 % 256) (getD octets i 0)) 0) (w * 2 ^ 8 % 2 ^ 32) % 65536)
+  wide-more n h b =
+      let more = tabled-more p n h b in
+      let t : ℕ = getD table (placeOf highFirst (w % 65536) (getD octets i 0)) 0 in
+      let r : ℕ = rest highFirst 8 8 (w % 65536) in
+      let gone : r % 2 ^ 16 ≡ w * 2 ^ 8 % 2 ^ 32 % 2 ^ 16 = omega arith in
+      subst (Tabled highFirst table octets (i + 1))
+      (sym (mod-eq-of-lt (more .passed .holds .fits))
+      ∙ xor-mod t r 16
+      ∙ ap (bitXor (t % 2 ^ 16)) gone
+      ∙ sym (xor-mod t (w * 2 ^ 8 % 2 ^ 32) 16)
+      ∙ ap (λ (k : ℕ). bitXor (getD table k 0) (w * 2 ^ 8 % 2 ^ 32) % 65536) same-place)
+      more

@@ -71,7 +71,7 @@ holds-ones lowFirst = record { fits = lit< tt; bits = refl }
 unfoldable pub tableWord : Order → ℕ → ℕ → ℕ
 tableWord o j n = numberOf o (run (zeros 16) (bitsOf o j n))
 
-word : (o : Order) (j n : ℕ) → Holds o (tableWord o j n) (run (zeros 16) (bitsOf o j n))
+pub word : (o : Order) (j n : ℕ) → Holds o (tableWord o j n) (run (zeros 16) (bitsOf o j n))
 unfolding tableWord
 word o j n =
     record {

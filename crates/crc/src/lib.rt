@@ -269,19 +269,19 @@ const HIGH: [u16; 256] = [
     0x1ef0,
 ];
 
-// The packet check of octets: high bit first, not complemented. They stay as they are.
+// The packet check of octets: high bit first, not complemented. They stay as they are. The register is crc's low 16 bits.
 pub fn packet_check(octets: &[u8]) -> u16
     ensures { λ r. ⌜ r ≡ packetCheck (now (octets .entry)) ⌝ }
 {
     let table = HIGH;
-    let mut crc = START;
+    let mut crc = START as u32;
     let mut i = 0;
     while i < octets.len() {
-        let k = (crc >> 8) ^ (octets[i] as u16);
-        crc = table[k as usize] ^ (crc << 8);
+        let k = (crc / 256 % 256) ^ (octets[i] as u32);
+        crc = (table[k as usize] as u32) ^ (crc << 8);
         i += 1;
     }
-    crc
+    (crc % 65536) as u16
 }
 
 // The eight octets from index i on, joined to a number: its bits, low first, are theirs.
