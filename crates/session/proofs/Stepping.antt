@@ -29,7 +29,7 @@ use Rattle.session.specs.declared.channels.Followed.{Followed}
 -- ---- an accepted frame
 
 -- c is the frame's channel, wherever it was read from
-module _ (s : Session) (f : Frame) (xs : List ℕ) (i master : ℕ) (c : Channel) (ei : i ≡ f .channel) (ec : c ≡ channelAt s (f .channel))
+module _ (s : Session) (f : Frame) (xs : List ℕ) (master : ℕ) (c : Channel) (ec : c ≡ channelAt s (f .channel))
     (em : master ≡ lostSince (lastOf (s .heard) (s .master .0)) (f .master .0)) (r : Followed) (out list out′ list′ : List ℕ)
     (w : Follows (step (s .arrival) (view c) (pieceOf f xs)) r out list out′ list′) where
   follows : Follows (ruled s f xs) r out list out′ list′
@@ -38,13 +38,13 @@ module _ (s : Session) (f : Frame) (xs : List ℕ) (i master : ℕ) (c : Channel
 
   pub gives-accepted : Gives (accepted s f xs)
       (record {
-        session = record { t = s .t; arrival = s .arrival; master = f .master; heard = true; channels = set (s .channels) i (r .channel) };
+        session = record { t = s .t; arrival = s .arrival; master = f .master; heard = true; channels = set (s .channels) (f .channel) (r .channel) };
         answer = answer.Accepted (s .arrival) (f .channel) (r .lost) master (r .packets);
       })
       out list out′ list′
   unfolding accepted
   gives-accepted = record {
-    session = simp (ei, follows .channel);
+    session = simp (follows .channel);
     answers = simp (follows .lost, em, follows .packets);
     octets = follows .octets;
     lengths = follows .lengths;

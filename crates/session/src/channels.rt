@@ -39,7 +39,7 @@ impl Channel {
     pub(crate) fn unsound(self) -> bool
         ensures { λ r. ⌜ r ≡ channelUnsound self ⌝ }
     {
-        let n = octets::wide(self.length);
+        let n = self.length as usize;
         if n == 0 {
             return false;
         }
@@ -96,17 +96,17 @@ impl Channel {
         }
     }
 
-    // The channel in step that holds what is behind the first n octets of held and data end to end.
-    fn left(count: ChannelCount, held: &[u8], data: &[u8], n: usize) -> Channel
+    // The channel that holds what is behind the first n octets of held and data end to end.
+    fn left(count: ChannelCount, instep: bool, held: &[u8], data: &[u8], n: usize) -> Channel
         requires { ⌜ Left (now held) (now «data») n ⌝ }
-        ensures { λ r. ⌜ r ≡ stored (channelOf (count .0) true (heldOf (drop n (now (held .entry) ++ now («data» .entry))))) ⌝ }
+        ensures { λ r. ⌜ r ≡ stored (channelOf (count .0) instep (heldOf (drop n (now (held .entry) ++ now («data» .entry))))) ⌝ }
     {
         let k = held.len();
         if n < k {
-            return Channel::holding(count, true, held, data);
+            return Channel::holding(count, instep, held, data);
         }
         let at = n - k;
-        Channel::holding(count, true, &held[..0], &data[at..])
+        Channel::holding(count, instep, &held[..0], &data[at..])
     }
 
     // Rules 1 to 5: the channel after a frame with this count, pointer and data; the packets that it completes are at the start of
@@ -125,7 +125,7 @@ impl Channel {
         let held = self.held;
         let last = self.last;
         let lost = Channel::lost(self.heard, last, count);
-        let mut k = octets::wide(self.length);
+        let mut k = self.length as usize;
         let mut instep = self.instep;
         if 0 < lost {
             k = 0;
@@ -179,7 +179,7 @@ fn follow(
                 packets: 0,
             };
         }
-        at = octets::wide(pointer);
+        at = pointer as usize;
     }
     take(count, lost, &held[..k], &data[at..], octets, lengths)
 }
@@ -197,18 +197,9 @@ fn take(
     ensures { λ r. ⌜ ((a : ℕ) → Follows (answer (count .0) lost (feed a (holding (heldOf (now (held .entry))) []) (now («data» .entry)))) r (now (octets .entry)) (now (lengths .entry)) (now (octets .exit)) (now (lengths .exit))) ⌝ }
 {
     let cut = cutting::cut(held, data, lengths);
-    let n = cut.octets;
+    cutting::hand_out(held, data, cut.octets, octets);
+    let channel = Channel::left(count, cut.instep, held, data, cut.kept);
     let packets = cut.packets as u8;
-    cutting::hand_out(held, data, n, octets);
-    if cut.instep {
-        let channel = Channel::left(count, held, data, n);
-        return Followed {
-            channel,
-            lost,
-            packets,
-        };
-    }
-    let channel = Channel::dropped(count);
     Followed {
         channel,
         lost,

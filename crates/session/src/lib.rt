@@ -128,20 +128,23 @@ impl Session {
     pub fn step(mut self, frame: &[u8], octets: &mut [u8], lengths: &mut [u16]) -> Stepped
         ensures { λ r. ⌜ Steps self (now (frame .entry)) (now (octets .entry)) (now (lengths .entry)) r (now (octets .exit)) (now (lengths .exit)) ⌝ }
     {
-        let answer = if (octets.len() < 501) | (lengths.len() < 16) {
-            StepAnswer::Refused(answer::ROOM)
+        let answer;
+        if (octets.len() < 501) | (lengths.len() < 16) {
+            answer = StepAnswer::Refused(answer::ROOM);
         } else if self.unsound() {
-            StepAnswer::Refused(answer::SESSION)
+            answer = StepAnswer::Refused(answer::SESSION);
         } else if self.arrival == 4294967295 {
-            StepAnswer::Refused(answer::ARRIVALS)
+            answer = StepAnswer::Refused(answer::ARRIVALS);
         } else {
             self.arrival += 1;
             match Frame::read(self.t, frame) {
-                FrameRead::Refused(refusal) => StepAnswer::Refused(refusal),
+                FrameRead::Refused(refusal) => {
+                    answer = StepAnswer::Refused(refusal);
+                }
                 FrameRead::Frame(f) => {
-                    let i = octets::wide(f.channel);
-                    let channel = self.channels[i];
-                    let followed = channel.heed(f.count, f.pointer, f.data(frame), octets, lengths);
+                    let i = f.channel as usize;
+                    let followed = self.channels[i]
+                        .heed(f.count, f.pointer, f.data(frame), octets, lengths);
                     let channel = followed.channel;
                     let last = self.master;
                     let master = f.master;
@@ -149,16 +152,16 @@ impl Session {
                     self.channels[i] = channel;
                     self.master = master;
                     self.heard = true;
-                    StepAnswer::Accepted {
+                    answer = StepAnswer::Accepted {
                         arrival: self.arrival,
                         channel: f.channel,
                         lost: followed.lost,
                         master: lost,
                         packets: followed.packets,
-                    }
+                    };
                 }
             }
-        };
+        }
         Stepped {
             session: self,
             answer,

@@ -1,6 +1,6 @@
 -- `Channel::heed` meets its contract.
 use borrow.Author.Needs.{needs}
-use mathlib.Core.Path.{_≡_, sym, _∙_}
+use mathlib.Core.Path.{_≡_, sym}
 use mathlib.Core.Logic.{⊎-elim}
 use lib.ListN.{length}
 use lib.Seq.{length-take-le}
@@ -15,7 +15,7 @@ carried c =
     let l : length (s .args .self .held) ≡ 250 = search needs in
     ⊎-elim
     (λ w. carries-none (s .args .self) (c .before .before .lost .result) (c .if1 .k) (c .if1 .instep) (w .0 .taken) (w .1) (w .2))
-    (λ w. carries-all (s .args .self) (c .before .before .lost .result) (c .if1 .k) (c .if1 .instep) (s .pre .sound) l (w .0 .left) (w .1 ∙ c .before .wide .ensures) (w .2))
+    (λ w. carries-all (s .args .self) (c .before .before .lost .result) (c .if1 .k) (c .if1 .instep) (s .pre .sound) l (w .0 .left) (w .1) (w .2))
     (c .if1 .came)
 
 returns : tie.Need-returns
@@ -30,5 +30,5 @@ pub heed-spec : {M : Type 1} → statement M
 heed-spec =
     tie.close
     (tie.spec
-    (λ c κs. search needs) (λ c κs. search needs) (λ c. carried c .within) (λ c. sym (length-take-le _ _ (carried (c .before) .within)))
+    (λ c κs. search needs) (λ c. search needs) (λ c. carried c .within) (λ c. sym (length-take-le _ _ (carried (c .before) .within)))
     (λ c κs. record { sound = carried (c .before .before .before) .sound; heard = c .before .before .before .before .before .before .before .before .before .before .before .pre .heard }) (λ c. search needs) (λ c. search needs) returns)

@@ -1,31 +1,25 @@
 -- `Channel::unsound` meets its contract: nothing held is never wrong, and else the tests in their order.
 use borrow.Author.Needs.{needs}
-use mathlib.Core.Path.{_≡_, sym, ap, _∙_}
-use Prim.Native.Nat.{ℕ}
-use Rattle.rules.specs.Bounds.{heldWrong}
+use mathlib.Core.Path.{sym}
 use Rattle.session.proofs.Soundness.{none-wrong, wrong-at-once, few-right, length-wrong}
 use Rattle.session.proofs.Channel.unsound.Statement.{statement}
 use Rattle.session.proofs.Channel.unsound.Tie as tie
 
--- the number held is the channel's
-same : (c : tie.After-wide) → heldWrong (c .before .args .t1 .instep) (c .wide .result) (c .before .args .t1 .held) ≡ heldWrong (c .before .args .t1 .instep) (c .before .args .t1 .length) (c .before .args .t1 .held)
-same c = ap (λ (n : ℕ). heldWrong (c .before .args .t1 .instep) n (c .before .args .t1 .held)) (c .wide .ensures)
-
 returns : tie.Need-returns
-returns c = sym (sym (same (c .before)) ∙ none-wrong _ _ _ (c .if1 .taken))
+returns c = sym (none-wrong _ _ _ (c .if1 .taken))
 
 returns-2 : tie.Need-returns-2
-returns-2 c = sym (sym (same (c .before .before)) ∙ wrong-at-once _ _ _ (c .before .if1 .left) (c .if2 .taken))
+returns-2 c = sym (wrong-at-once _ _ _ (c .before .if1 .left) (c .if2 .taken))
 
 returns-3 : tie.Need-returns-3
-returns-3 c = sym (sym (same (c .before .before .before)) ∙ few-right _ _ _ (c .before .before .if1 .left) (c .before .if2 .left) (c .if3 .taken))
+returns-3 c = sym (few-right _ _ _ (c .before .before .if1 .left) (c .before .if2 .left) (c .if3 .taken))
 
 returns-4 : tie.Need-returns-4
-returns-4 c = rw (c .word .ensures) (sym (sym (same (c .before .before .before .before .before .before)) ∙ length-wrong _ _ _ (c .before .before .before .before .before .if1 .left) (c .before .before .before .before .if2 .left) (c .before .before .before .if3 .left)))
+returns-4 c = rw (c .word .ensures) (sym (length-wrong _ _ _ (c .before .before .before .before .before .if1 .left) (c .before .before .before .before .if2 .left) (c .before .before .before .if3 .left)))
 
 pub unsound-spec : {M : Type 1} → statement M
 unsound-spec =
     tie.close
     (tie.spec
-    (λ c κs. search needs) returns returns-2 returns-3 (λ c. search needs) (λ c. search needs) (λ c κs. search needs) (λ c. search needs) (λ c. search needs)
+    (λ c. search needs) returns returns-2 returns-3 (λ c. search needs) (λ c. search needs) (λ c κs. search needs) (λ c. search needs) (λ c. search needs)
     returns-4)

@@ -3,8 +3,8 @@ use native.Mathlib.Omega.{arith}
 use borrow.Author.Needs.{needs}
 use mathlib.Core.Path.{_≡_, sym, ap, _∙_}
 use mathlib.Core.Bool.{false}
-use Prim.Native.Nat.{ℕ, _<_}
-use lib.ListN.{length, getD}
+use Prim.Native.Nat.{_<_}
+use lib.ListN.{length}
 use Rattle.octets.proofs.Choices.{through}
 use Rattle.frame.specs.Frame.{told}
 use Rattle.frame.specs.Statements.{Accepted}
@@ -51,36 +51,36 @@ seen c =
     accepts (a .t1 .t) (a .frame .now) (c .before .f .given .0 .0) (sym (sym (ap told (c .before .f .given .1)) ∙ c .before .before .before .read .ensures))
 
 -- its channel is one of the eight
-low : (c : tie.After-wide) → c .wide .result < 8
-low c = let w = seen (c .before) in omega (arith, c .wide .ensures)
+low : (c : tie.After-struct-known) → c .before .before .f .given .0 .0 .channel < 8
+low c = let w = seen (c .before) in omega arith
 
 eight : (c : tie.Else1) → length (c .before .before .before .before .args .t1 .channels) ≡ 8
 eight c = search (needs, length-mapped)
 
-one : (c : tie.After-wide) → c .wide .result < length (c .before .before .before .before .before .before .before .before .before .before .before .before .args .t1 .channels)
+one : (c : tie.After-struct-known) → c .before .before .f .given .0 .0 .channel < length (c .before .before .before .before .before .before .before .before .before .before .before .before .args .t1 .channels)
 one c = omega (arith, eight (c .before .before .before .before .before .before .before .before), low c)
 
 heed-requires : tie.Need-heed-requires
 heed-requires c κs =
+    let d = c .before .before .«data» in
     let w = c .before .before .before .before in
-    let a = w .before .before .before .before .before .before .before .before .before .before .before .before .args in
+    let f = w .before .before .f .given .0 .0 in
     let u = sound (w .before .before .before .before .before .before) in
-    asked (a .t1) (a .frame .now) (a .octets .now) (a .lengths .now) (w .before .before .before .before .before .before .before .before .if1 .left) u (w .before .before .f .given .0 .0) (c .before .before .«data» .result .now) _ (seen (w .before)) (c .before .before .«data» .ensures)
-    (sound-at (a .t1) (w .wide .result) _ (one w) u)
+    let a = w .before .before .before .before .before .before .before .before .before .before .before .before .args in
+    asked (a .t1) (a .frame .now) (a .octets .now) (a .lengths .now) (w .before .before .before .before .before .before .before .before .if1 .left) u f (d .result .now) _ (seen (w .before)) (d .ensures)
+    (sound-at (a .t1) (f .channel) _ (one w) u)
 
 returns-5 : tie.Need-returns-5
 returns-5 c =
     let h = c .before .before .before .before .before .before .before .before .heed in
     let d = c .before .before .before .before .before .before .before .before .before .before .before .«data» in
     let w = c .before .before .before .before .before .before .before .before .before .before .before .before .before in
-    let i = w .wide .result in
     let f = w .before .before .f .given in
     let e = w .before .before .before .before .before in
     let a = w .before .before .before .before .before .before .before .before .before .before .before .before .args in
     read (a .t1) (a .frame .now) (a .octets .now) (a .lengths .now) (e .before .before .before .if1 .left) (sound (e .before)) (e .if3 .left) (f .0 .0) (d .result .now) _
     (h .last .1 .1 .1 .1 .0) (h .last .1 .1 .1 .1 .1 .0) (sym (ap told (f .1)) ∙ w .before .before .before .before .read .ensures) (d .ensures)
-    (gives-accepted (counted (a .t1)) (f .0 .0) (d .result .now) i (c .lost .result) _ (w .wide .ensures)
-    (within-list (a .t1 .channels) i _ fresh (one w) ∙ ap (λ (k : ℕ). getD (a .t1 .channels) k fresh) (w .wide .ensures))
+    (gives-accepted (counted (a .t1)) (f .0 .0) (d .result .now) (c .lost .result) _ (within-list (a .t1 .channels) (f .0 .0 .channel) _ fresh (one w))
     (c .lost .ensures) (h .result) (a .octets .now) (a .lengths .now) (h .last .1 .1 .1 .1 .0) (h .last .1 .1 .1 .1 .1 .0)
     (h .ensures (counted (a .t1) .arrival)))
 
@@ -88,6 +88,6 @@ pub step-spec : {M : Type 1} → statement M
 step-spec =
     tie.close
     (tie.spec
-    (λ c κs. search needs) (λ c. search needs) (λ c κs. search needs) (λ c. search needs) (λ c. search needs) (λ c κs. search needs)
+    (λ c κs. search needs) (λ c. search needs) (λ c κs. search needs) (λ c. search needs) (λ c. search needs) (λ c. search needs)
     (λ c. omega (arith, low c)) low (λ c κs. search needs) heed-requires (λ c κs. search needs) (λ c. omega (arith, low (c .before .before .before .before .before .before .before .before .before .before .before .before .before))) (λ c. low (c .before .before .before .before .before .before .before .before .before .before .before .before .before))
     returns returns-2 returns-3 returns-4 (λ c. search needs) (λ c. search needs) returns-5)

@@ -50,7 +50,7 @@ given c =
     (λ w. parts-all (a .instep) (a .held .now) (a .pointer) (a .«data» .now) (a .octets .now) (a .lengths .now) (s .pre) (c .if2 .k) (c .if2 .at) (c .before .before .if1 .left)
     (tested (a .instep) (t .result) _ true (t .ensures) (w .0 .taken)) (w .1) (w .2))
     (λ w. parts-entered (a .instep) (a .held .now) (a .pointer) (a .«data» .now) (a .octets .now) (a .lengths .now) (s .pre) (c .if2 .k) (c .if2 .at) (c .before .before .if1 .left)
-    (tested (a .instep) (t .result) _ false (t .ensures) (w .0 .left)) (w .1 .left) (w .3) (w .4 ∙ w .2 .ensures))
+    (tested (a .instep) (t .result) _ false (t .ensures) (w .0 .left)) (w .1 .left) (w .2) (w .3))
     (c .if2 .came)
 
 returns-3 : tie.Need-returns-3
@@ -65,6 +65,6 @@ pub follow-spec : {M : Type 1} → statement M
 follow-spec =
     tie.close
     (tie.spec
-    (λ c. search needs) holding-requires returns (λ c κs. begun (c .before .before .before .before .before)) (λ c κs. search needs) returns-2 (λ c κs. search needs)
+    (λ c. search needs) holding-requires returns (λ c κs. begun (c .before .before .before .before .before)) (λ c κs. search needs) returns-2
     (λ c. sym (length-take-le _ _ (given (c .before) .front))) (λ c. given (c .before .before) .back) (λ c. given (c .before .before) .back) (λ c. search needs)
     (λ c κs. given (c .before .before .before .before .before) .taken) (λ c. search needs) (λ c. search needs) returns-3)
