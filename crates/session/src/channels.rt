@@ -1,13 +1,12 @@
 // One channel: rules 1 to 5.
 ghost use mathlib.Core.Path.{_≡_};
-ghost use mathlib.Core.Bool.{true, false};
 ghost use mathlib.Core.List.{[], _++_};
 ghost use Prim.Native.Nat.{ℕ, _+_, _≤_};
 ghost use lib.ListN.{length, drop};
-ghost use Rattle.rules.specs.Channel.{nothing, feed, holding, follow, answer, lostSince, step};
+ghost use Rattle.rules.specs.Channel.{feed, holding, follow, answer, lostSince, step};
 ghost use Rattle.session.specs.Channel.{lastOf, heldOf, view, channelOf, stored, fresh, channelUnsound};
 ghost use Rattle.session.specs.Asked.{Asked, Followable, Left, Taken};
-ghost use Rattle.session.specs.Promised.{Follows};
+ghost use Rattle.session.specs.Promised.{inStepIf, Follows};
 use super::Channel;
 use super::cutting;
 use counts::ChannelCount;
@@ -78,20 +77,6 @@ impl Channel {
             heard: true,
             instep,
             length: n as u8,
-            held,
-        }
-    }
-
-    // The channel out of step, with nothing held.
-    fn dropped(count: ChannelCount) -> Channel
-        ensures { λ r. ⌜ r ≡ stored (channelOf (count .0) false nothing) ⌝ }
-    {
-        let held = [0u8; 250];
-        Channel {
-            last: count,
-            heard: true,
-            instep: false,
-            length: 0,
             held,
         }
     }
@@ -168,37 +153,42 @@ fn follow(
     }
     let mut k = 0;
     let mut at = 0;
+    let mut starts = true;
     if instep & cutting::fits(held, data, pointer) {
         k = held.len();
+    } else if pointer == 255 {
+        at = data.len();
+        starts = false;
     } else {
-        if pointer == 255 {
-            let channel = Channel::dropped(count);
-            return Followed {
-                channel,
-                lost,
-                packets: 0,
-            };
-        }
         at = pointer as usize;
     }
-    take(count, lost, &held[..k], &data[at..], octets, lengths)
+    take(
+        count,
+        lost,
+        starts,
+        &held[..k],
+        &data[at..],
+        octets,
+        lengths,
+    )
 }
 
-// Rule 5: packets taken one after another out of the held octets and the data, and the rest held.
+// Rule 5: packets taken one after another out of the held octets and the data, and the rest held; in step only if a packet starts.
 fn take(
     count: ChannelCount,
     lost: u8,
+    starts: bool,
     held: &[u8],
     data: &[u8],
     octets: &mut [u8],
     lengths: &mut [u16],
 ) -> Followed
     requires { ⌜ Taken (now held) (now «data») (now octets) (now lengths) ⌝ }
-    ensures { λ r. ⌜ ((a : ℕ) → Follows (answer (count .0) lost (feed a (holding (heldOf (now (held .entry))) []) (now («data» .entry)))) r (now (octets .entry)) (now (lengths .entry)) (now (octets .exit)) (now (lengths .exit))) ⌝ }
+    ensures { λ r. ⌜ ((a : ℕ) → Follows (answer (count .0) lost (inStepIf starts (feed a (holding (heldOf (now (held .entry))) []) (now («data» .entry))))) r (now (octets .entry)) (now (lengths .entry)) (now (octets .exit)) (now (lengths .exit))) ⌝ }
 {
     let cut = cutting::cut(held, data, lengths);
     cutting::hand_out(held, data, cut.octets, octets);
-    let channel = Channel::left(count, cut.instep, held, data, cut.kept);
+    let channel = Channel::left(count, starts & cut.instep, held, data, cut.kept);
     let packets = cut.packets as u8;
     Followed {
         channel,

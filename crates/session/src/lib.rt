@@ -103,8 +103,7 @@ impl Session {
         }
         let mut i = 0;
         while i < 8 {
-            let channel = self.channels[i];
-            if channel.unsound() {
+            if self.channels[i].unsound() {
                 return true;
             }
             i += 1;

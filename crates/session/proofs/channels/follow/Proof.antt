@@ -8,7 +8,7 @@ use mathlib.Core.Logic.{⊎-elim}
 use lib.ListN.{length}
 use lib.Seq.{length-take-le}
 use Rattle.session.specs.Asked.{Begun}
-use Rattle.session.proofs.Following.{Parts, follows-raw, follows-skipped, follows-taken, to-fit, parts-all, parts-entered}
+use Rattle.session.proofs.Following.{Parts, follows-raw, follows-taken, to-fit, parts-all, parts-none, parts-entered}
 use Rattle.session.proofs.channels.follow.Statement.{statement}
 use Rattle.session.proofs.channels.follow.Tie as tie
 
@@ -33,38 +33,35 @@ returns c n =
 tested : (i r s b : Bool) → r ≡ s → (i && r) ≡ b → (i && s) ≡ b
 tested i r s b e h = ap (λ (x : Bool). i && x) (sym e) ∙ h
 
-returns-2 : tie.Need-returns-2
-returns-2 c n =
-    let a = c .before .before .before .before .before .before .before .before .before .args in
-    let t = c .before .before .before .fits2 in
-    follows-skipped (a .instep) (a .held .now) (a .pointer) (a .«data» .now) n (a .count .0) (a .lost) (a .octets .now) (a .lengths .now) (a .octets .now) (a .lengths .now) (c .dropped .result)
-    (c .before .before .before .before .if1 .left) (tested (a .instep) (t .result) _ false (t .ensures) (c .before .before .if2 .left)) (c .before .if3 .taken) (c .dropped .ensures)
-
 -- what rule 5 is given, whichever way it came
-given : (c : tie.Joined2) → Parts (c .before .before .before .before .before .before .before .args .instep) (c .before .before .before .before .before .before .before .args .held .now) (c .before .before .before .before .before .before .before .args .pointer) (c .before .before .before .before .before .before .before .args .«data» .now) (c .before .before .before .before .before .before .before .args .octets .now) (c .before .before .before .before .before .before .before .args .lengths .now) (c .if2 .k) (c .if2 .at)
+given : (c : tie.Joined2) → Parts (c .before .before .before .before .before .before .before .args .instep) (c .before .before .before .before .before .before .before .args .held .now) (c .before .before .before .before .before .before .before .args .pointer) (c .before .before .before .before .before .before .before .args .«data» .now) (c .before .before .before .before .before .before .before .args .octets .now) (c .before .before .before .before .before .before .before .args .lengths .now) (c .if2 .k) (c .if2 .at) (c .if2 .starts)
 given c =
     let s = c .before .before .before .before .before .before .before in
     let a = s .args in
     let t = c .before .fits2 in
+    let n = c .before .before .if1 .left in
     ⊎-elim
-    (λ w. parts-all (a .instep) (a .held .now) (a .pointer) (a .«data» .now) (a .octets .now) (a .lengths .now) (s .pre) (c .if2 .k) (c .if2 .at) (c .before .before .if1 .left)
-    (tested (a .instep) (t .result) _ true (t .ensures) (w .0 .taken)) (w .1) (w .2))
-    (λ w. parts-entered (a .instep) (a .held .now) (a .pointer) (a .«data» .now) (a .octets .now) (a .lengths .now) (s .pre) (c .if2 .k) (c .if2 .at) (c .before .before .if1 .left)
-    (tested (a .instep) (t .result) _ false (t .ensures) (w .0 .left)) (w .1 .left) (w .2) (w .3))
+    (λ w. parts-all (a .instep) (a .held .now) (a .pointer) (a .«data» .now) (a .octets .now) (a .lengths .now) (s .pre) (c .if2 .k) (c .if2 .at) (c .if2 .starts) n
+    (tested (a .instep) (t .result) _ true (t .ensures) (w .0 .taken)) (w .1) (w .2) (w .3))
+    (⊎-elim
+    (λ w. parts-none (a .instep) (a .held .now) (a .pointer) (a .«data» .now) (a .octets .now) (a .lengths .now) (s .pre) (c .if2 .k) (c .if2 .at) (c .if2 .starts) n
+    (tested (a .instep) (t .result) _ false (t .ensures) (w .0 .left)) (w .2) (w .1 .taken) (w .3) (w .4))
+    (λ w. parts-entered (a .instep) (a .held .now) (a .pointer) (a .«data» .now) (a .octets .now) (a .lengths .now) (s .pre) (c .if2 .k) (c .if2 .at) (c .if2 .starts) n
+    (tested (a .instep) (t .result) _ false (t .ensures) (w .0 .left)) (w .2) (w .1 .left) (w .3) (w .4)))
     (c .if2 .came)
 
-returns-3 : tie.Need-returns-3
-returns-3 c n =
+returns-2 : tie.Need-returns-2
+returns-2 c n =
+    let t = c .before .before .before .before .take in
     let j = c .before .before .before .before .before .before .before .before .before .before in
     let a = j .before .before .before .before .before .before .before .args in
-    let t = c .before .before .before .before .take in
-    follows-taken (a .instep) (a .held .now) (a .pointer) (a .«data» .now) n (a .count .0) (a .lost) (a .octets .now) (a .lengths .now) (t .last .1 .1 .1 .1 .0) (t .last .1 .1 .1 .1 .1 .0)
-    (j .if2 .k) (j .if2 .at) (t .result) (given j) (t .ensures n)
+    follows-taken (a .instep) (a .held .now) (a .pointer) (a .«data» .now) n (a .count .0) (a .lost) (a .octets .now) (a .lengths .now) (t .last .1 .1 .1 .1 .1 .0) (t .last .1 .1 .1 .1 .1 .1 .0)
+    (j .if2 .k) (j .if2 .at) (j .if2 .starts) (t .result) (given j) (t .ensures n)
 
 pub follow-spec : {M : Type 1} → statement M
 follow-spec =
     tie.close
     (tie.spec
-    (λ c. search needs) holding-requires returns (λ c κs. begun (c .before .before .before .before .before)) (λ c κs. search needs) returns-2
+    (λ c. search needs) holding-requires returns (λ c κs. begun (c .before .before .before .before .before))
     (λ c. sym (length-take-le _ _ (given (c .before) .front))) (λ c. given (c .before .before) .back) (λ c. given (c .before .before) .back) (λ c. search needs)
-    (λ c κs. given (c .before .before .before .before .before) .taken) (λ c. search needs) (λ c. search needs) returns-3)
+    (λ c κs. given (c .before .before .before .before .before) .taken) (λ c. search needs) (λ c. search needs) returns-2)

@@ -17,22 +17,22 @@ hand-out-requires c κs =
 
 cast-packets : tie.Need-cast-packets
 cast-packets c =
-    let k = c .before .before .before .before .before .before .before .before .cut in
-    let s = c .before .before .before .before .before .before .before .before .before .before .before .before .before .before in
+    let k = c .before .before .before .before .before .before .before .before .before .cut in
+    let s = c .before .before .before .before .before .before .before .before .before .before .before .before .before .before .before in
     let a = s .args in
     omega (arith, few-packets (a .held .now) (a .«data» .now) (a .octets .now) (a .lengths .now) (s .pre) (k .result) (k .last .1 .1 .0) (k .ensures))
 
 returns : tie.Need-returns
 returns c n =
-    let k = c .before .before .before .before .before .before .before .before .cut in
-    let h = c .before .before .before .before .hand-out in
-    let s = c .before .before .before .before .before .before .before .before .before .before .before .before .before .before in
+    let k = c .before .before .before .before .before .before .before .before .before .cut in
+    let h = c .before .before .before .before .before .hand-out in
+    let s = c .before .before .before .before .before .before .before .before .before .before .before .before .before .before .before in
     let a = s .args in
     takes (a .held .now) (a .«data» .now) (a .octets .now) (a .lengths .now) (s .pre) (k .result) (k .last .1 .1 .0) (k .ensures)
-    n (a .count .0) (a .lost) (h .last .1 .1 .1 .0) (h .ensures) (c .before .left .result) (c .before .left .ensures)
+    n (a .count .0) (a .lost) (a .starts) (h .last .1 .1 .1 .0) (h .ensures) (c .before .left .result) (c .before .left .ensures)
 
 pub take-spec : {M : Type 1} → statement M
 take-spec =
     tie.close
     (tie.spec
-    cut-requires hand-out-requires (λ c κs. c .before .before .before .before .before .before .cut .ensures .kept) cast-packets (λ c. search needs) (λ c. search needs) returns)
+    cut-requires hand-out-requires (λ c κs. c .before .before .before .before .before .before .before .cut .ensures .kept) cast-packets (λ c. search needs) (λ c. search needs) returns)
