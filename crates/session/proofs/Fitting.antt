@@ -1,8 +1,8 @@
 -- Rule 3 by the tests that the code makes, and what a packet that is held says of itself.
 use Prim.Native.Nat.{ℕ, _+_, _-_, _≤_, _<_}
 use native.Mathlib.Omega.{arith}
-use mathlib.Core.Path.{_≡_, refl}
-use mathlib.Core.Bool.{true, false, _||_}
+use mathlib.Core.Path.{_≡_, refl, ap}
+use mathlib.Core.Bool.{Bool, true, false, not, _||_}
 use mathlib.Core.Logic.{⊎-elim}
 use mathlib.Core.List.{List, [], _∷_, _++_}
 use lib.ListN.{length, length-append}
@@ -27,6 +27,13 @@ within n e = record { least = ltb-false _ _ (or-left (ltb n 16) _ e); greatest =
 
 inside : (n : ℕ) → Within n → allowed n ≡ true
 inside n w = simp (le-leb 16 n (w .least), le-leb n 251 (w .greatest))
+
+pub not-allowed : (n : ℕ) → not (allowed n) ≡ (ltb n 16 || ltb 251 n)
+not-allowed n = go (ltb n 16 || ltb 251 n) refl
+  where
+    go : (b : Bool) → (ltb n 16 || ltb 251 n) ≡ b → not (allowed n) ≡ b
+    go true e = ap not (outside n e)
+    go false e = ap not (inside n (within n e))
 
 pub status-outside : (h : List ℕ) → 6 ≤ length h → allowed (lengthIn h) ≡ false → status h ≡ wrong
 unfolding status

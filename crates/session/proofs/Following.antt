@@ -5,67 +5,72 @@ use mathlib.Core.Path.{_≡_, refl, sym, ap, _∙_, subst}
 use mathlib.Core.Bool.{Bool, true, false, _&&_}
 use mathlib.Core.Option.{none}
 use mathlib.Core.List.{List, [], _++_, append-nil}
-use lib.ListN.{length, take, drop, length-drop}
+use lib.ListN.{length, take, drop, length-drop, drop-of-length-le}
+use lib.Seq.{take-all}
 use borrow.Author.Tests.{eq-eqb, ne-eqb}
-use Rattle.frame.specs.declared.Frame.{Frame}
-use Rattle.rules.specs.Channel.{Held, nothing, Work, outOfStep, holding, feed, fits, enter, follow, afterLoss, answer, lostSince, step}
+use Rattle.rules.specs.Channel.{nothing, Work, outOfStep, holding, feed, fits, enter, follow, afterLoss, answer, lostSince, step}
+use Rattle.rules.specs.Bounds.{Sound}
 use Rattle.rules.specs.Packets.{bare}
-use Rattle.rules.specs.Cutting.{Cut, cutOf}
+use Rattle.rules.specs.Cutting.{Cut}
 use Rattle.rules.proofs.Status.{empty-unfinished}
-use Rattle.rules.proofs.Bounds.{sound-status, sound-held, step-bounded}
+use Rattle.rules.proofs.Bounds.{sound-status, sound-held, passing-sound, step-bounded}
 use Rattle.rules.proofs.Cutting.{cuts-on}
-use Rattle.session.specs.Channel.{heldOf, view, channelOf, stored}
-use Rattle.session.specs.Step.{pieceOf}
+use Rattle.session.specs.Channel.{lastOf, heldOf, view, channelOf, stored, channelUnsound}
 use Rattle.session.specs.Asked.{Begun, Taken, Followable}
-use Rattle.session.specs.Promised.{Follows}
+use Rattle.session.specs.Promised.{inStepIf, Follows}
 use Rattle.session.specs.declared.Channel.{Channel}
 use Rattle.session.specs.declared.channels.Followed.{Followed}
 use Rattle.session.proofs.Keeping.{to-end}
+use Rattle.session.proofs.Soundness.{held-most}
 
 -- ---- rule 1
 
-module _ (a lost : ℕ) (inStep : Bool) (h : Held) (pointer : ℕ) (xs : List ℕ) where
-  pub after-loss : 0 < lost → afterLoss a lost inStep h pointer xs ≡ follow a false nothing pointer xs
-  after-loss l = go lost l
-    where
-      go : (n : ℕ) → 0 < n → afterLoss a n inStep h pointer xs ≡ follow a false nothing pointer xs
-      go zero k = absurd (omega arith)
-      go (suc n) k = refl
+-- after it, the others go on in step or not with the first k of the channel's octets
+pub record Carries (c : Channel) (lost k : ℕ) (inStep : Bool) : Type 0 where
+  pub within : k ≤ length (c .held)
+  pub sound : Sound inStep (take k (c .held))
+  pub work : (a pointer : ℕ) (xs : List ℕ)
+      → afterLoss a lost (view c .inStep) (view c .held) pointer xs ≡ follow a inStep (heldOf (take k (c .held))) pointer xs
 
-  pub no-loss : lost ≤ 0 → afterLoss a lost inStep h pointer xs ≡ follow a inStep h pointer xs
-  no-loss l = go lost l
-    where
-      go : (n : ℕ) → n ≤ 0 → afterLoss a n inStep h pointer xs ≡ follow a inStep h pointer xs
-      go zero k = refl
-      go (suc n) k = absurd (omega arith)
+pub carries-none : (c : Channel) (lost k : ℕ) (inStep : Bool) → 0 < lost → k ≡ 0 → inStep ≡ false → Carries c lost k inStep
+carries-none c zero k b l ek eb = absurd (omega arith)
+carries-none c (suc n) k b l ek eb =
+    subst (λ (m : ℕ). Carries c (suc n) m b) (sym ek)
+    (subst (Carries c (suc n) 0) (sym eb) (record { within = omega arith; sound = refl; work = λ a pointer xs. refl }))
+
+pub carries-all : (c : Channel) (lost k : ℕ) (inStep : Bool) → channelUnsound c ≡ false → length (c .held) ≡ 250 → lost ≤ 0 → k ≡ c .length
+    → inStep ≡ c .instep → Carries c lost k inStep
+unfolding view
+carries-all c (suc n) k b u h l ek eb = absurd (omega arith)
+carries-all c zero k b u h l ek eb =
+    subst (λ (m : ℕ). Carries c zero m b) (sym ek)
+    (subst (Carries c zero (c .length)) (sym eb)
+    (record {
+      within = omega (arith, held-most (c .instep) (c .length) (c .held) u);
+      sound = passing-sound (c .instep) (c .length) (c .held) u;
+      work = λ a pointer xs. refl;
+    }))
 
 -- as the step of a channel has it
-module _ (a lost : ℕ) (c : Channel) (f : Frame) (xs : List ℕ) (e : lost ≡ lostSince (view c .last) (f .count .0)) (r : Followed)
-    (out list out′ list′ : List ℕ) where
-  abbrev Answers : Work → Type 0
-  Answers w = Follows (answer (f .count .0) lost w) r out list out′ list′
-
-  steps : Answers (afterLoss a lost (view c .inStep) (view c .held) (f .pointer) xs) → Follows (step a (view c) (pieceOf f xs)) r out list out′ list′
-  unfolding step
-  steps h =
-      subst
-      (λ (n : ℕ).
-      Follows (answer (f .count .0) n (afterLoss a n (view c .inStep) (view c .held) (f .pointer) xs)) r out list out′ list′)
-      e h
-
-  pub steps-lost : 0 < lost → Answers (follow a false (heldOf []) (f .pointer) xs) → Follows (step a (view c) (pieceOf f xs)) r out list out′ list′
-  steps-lost l h = steps (subst Answers (sym (after-loss a lost (view c .inStep) (view c .held) (f .pointer) xs l)) h)
-
-  pub steps-on : (k : ℕ) → lost ≤ 0 → k ≡ c .length → Answers (follow a (c .instep) (heldOf (take k (c .held))) (f .pointer) xs)
-      → Follows (step a (view c) (pieceOf f xs)) r out list out′ list′
-  unfolding view
-  steps-on k l ek h =
-      steps
-      (subst Answers
-      (ap (λ (n : ℕ). follow a (c .instep) (heldOf (take n (c .held))) (f .pointer) xs) ek
-      ∙ sym (no-loss a lost (view c .inStep) (view c .held) (f .pointer) xs l)) h)
+pub steps : (c : Channel) (lost k : ℕ) (inStep : Bool) → Carries c lost k inStep → (a count pointer : ℕ) (xs : List ℕ) (r : Followed)
+    (out list out′ list′ : List ℕ) → lost ≡ lostSince (lastOf (c .heard) (c .last .0)) count
+    → Follows (answer count lost (follow a inStep (heldOf (take k (c .held))) pointer xs)) r out list out′ list′
+    → Follows (step a (view c) (record { count = count; pointer = pointer; octets = xs })) r out list out′ list′
+unfolding step view
+steps c lost k inStep w a count pointer xs r out list out′ list′ e h =
+    subst (λ (n : ℕ). Follows (answer count n (afterLoss a n (view c .inStep) (view c .held) pointer xs)) r out list out′ list′) e
+    (subst (λ (x : Work). Follows (answer count lost x) r out list out′ list′) (sym (w .work a pointer xs)) h)
 
 -- ---- rules 2 to 4
+
+-- rule 5 is given the first k of the octets held, and the data from at on; out of step if no packet starts
+pub record Parts (inStep : Bool) (held : List ℕ) (pointer : ℕ) (xs out list : List ℕ) (k at : ℕ) (starts : Bool) : Type 0 where
+  pub front : k ≤ length held
+  pub back : at ≤ length xs
+  pub taken : Taken (take k held) (take (length xs - at) (drop at xs)) out list
+  pub work : (a : ℕ)
+      → follow a inStep (heldOf held) pointer xs
+      ≡ inStepIf starts (feed a (holding (heldOf (take k held)) []) (take (length xs - at) (drop at xs)))
 
 module _ (inStep : Bool) (held : List ℕ) (pointer : ℕ) (xs : List ℕ) where
   module _ (a : ℕ) where
@@ -102,23 +107,10 @@ module _ (inStep : Bool) (held : List ℕ) (pointer : ℕ) (xs : List ℕ) where
             lengths = refl;
           })
 
-      pub follows-skipped : (x : Channel) → (pointer ≡ 254 → ⊥) → (inStep && fits held pointer xs) ≡ false → pointer ≡ 255
-          → x ≡ stored (channelOf count false nothing) → Follows (answer count lost followed) (record { channel = x; lost = lost; packets = 0 }) out list out list
-      follows-skipped x n e p h =
-          subst (λ (w : Work). Follows (answer count lost w) (record { channel = x; lost = lost; packets = 0 }) out list out list) (sym (is-skipped n e p))
-          (record { channel = h; lost = refl; packets = refl; octets = refl; lengths = refl })
-
-      pub follows-on : (r : Followed) → (pointer ≡ 254 → ⊥) → (inStep && fits held pointer xs) ≡ true
-          → Follows (answer count lost (feed a (holding (heldOf held) []) xs)) r out list out′ list′ → Follows (answer count lost followed) r out list out′ list′
-      follows-on r n e h = subst (λ (w : Work). Follows (answer count lost w) r out list out′ list′) (sym (is-on n e)) h
-
-      pub follows-entered : (r : Followed) (at : ℕ) → (pointer ≡ 254 → ⊥) → (inStep && fits held pointer xs) ≡ false → (pointer ≡ 255 → ⊥)
-          → at ≡ pointer → Follows (answer count lost (feed a (holding (heldOf []) []) (take (length xs - at) (drop at xs)))) r out list out′ list′
+      pub follows-taken : (k at : ℕ) (starts : Bool) (r : Followed) → Parts inStep held pointer xs out list k at starts
+          → Follows (answer count lost (inStepIf starts (feed a (holding (heldOf (take k held)) []) (take (length xs - at) (drop at xs))))) r out list out′ list′
           → Follows (answer count lost followed) r out list out′ list′
-      follows-entered r at n e p i h =
-          subst (λ (w : Work). Follows (answer count lost w) r out list out′ list′) (sym (is-entered n e p))
-          (subst (λ (l : List ℕ). Follows (answer count lost (feed a (holding nothing []) l)) r out list out′ list′)
-          (to-end xs at ∙ ap (λ (k : ℕ). drop k xs) i) h)
+      follows-taken k at starts r p h = subst (λ (w : Work). Follows (answer count lost w) r out list out′ list′) (sym (p .work a)) h
 
   -- ---- what the calls ask
 
@@ -131,36 +123,47 @@ module _ (inStep : Bool) (held : List ℕ) (pointer : ℕ) (xs : List ℕ) where
     }
 
     -- no more packets than a step hands out
-    most : length (bare (follow 0 inStep (heldOf held) pointer xs .packets)) ≤ 16
+    most : length (bare (followed 0 .packets)) ≤ 16
     unfolding step lostSince
     most =
         step-bounded 0 (record { last = none; inStep = inStep; held = heldOf held }) (record { count = 0; pointer = pointer; octets = xs })
         (f .sound) (f .heard .few) .packets
 
-    pub to-take : (pointer ≡ 254 → ⊥) → (inStep && fits held pointer xs) ≡ true → Taken held xs out list
-    to-take n e =
-        let c : bare (feed 0 (holding (heldOf held) []) xs .packets) ≡ cutOf (held ++ xs) .packets =
-        ap (λ (x : Cut). x .packets) (cuts-on 0 (heldOf held) [] xs (to-fit .unfinished)) in
-        record {
-          begun = to-fit;
-          most = subst (λ (l : List (List ℕ)). length l ≤ 16) (ap (λ (w : Work). bare (w .packets)) (is-on 0 n e) ∙ c) most;
-          room = f .heard .room;
-          entries = f .heard .entries;
-        }
+    to-take : (starts : Bool) (h d : List ℕ) → Begun h d → followed 0 ≡ inStepIf starts (feed 0 (holding (heldOf h) []) d) → Taken h d out list
+    to-take starts h d b e = record {
+      begun = b;
+      most = subst (λ (l : List (List ℕ)). length l ≤ 16)
+          (ap (λ (w : Work). bare (w .packets)) e ∙ ap (λ (x : Cut). x .packets) (cuts-on 0 (heldOf h) [] d (b .unfinished)))
+          most;
+      room = f .heard .room;
+      entries = f .heard .entries;
+    }
 
-    pub place : (pointer ≡ 254 → ⊥) → (pointer ≡ 255 → ⊥) → pointer ≤ length xs
-    place n p = omega (arith, f .heard .points n p)
+    module _ (k at : ℕ) (starts : Bool) (n : pointer ≡ 254 → ⊥) where
+      abbrev Given : Type 0
+      Given = Parts inStep held pointer xs out list k at starts
 
-    pub to-take-rest : (at : ℕ) → (pointer ≡ 254 → ⊥) → (inStep && fits held pointer xs) ≡ false → (pointer ≡ 255 → ⊥) → at ≡ pointer
-        → Taken [] (take (length xs - at) (drop at xs)) out list
-    to-take-rest at n e p i =
-        let r : take (length xs - at) (drop at xs) ≡ drop pointer xs = to-end xs at ∙ ap (λ (k : ℕ). drop k xs) i in
-        let c : bare (feed 0 (holding nothing []) (drop pointer xs) .packets) ≡ cutOf (drop pointer xs) .packets =
-        ap (λ (x : Cut). x .packets) (cuts-on 0 nothing [] (drop pointer xs) empty-unfinished) in
-        subst (λ (l : List ℕ). Taken [] l out list) (sym r)
-        (record {
-          begun = record { unfinished = empty-unfinished; short = omega arith; few = omega (arith, length-drop pointer xs, f .heard .few) };
-          most = subst (λ (l : List (List ℕ)). length l ≤ 16) (ap (λ (w : Work). bare (w .packets)) (is-entered 0 n e p) ∙ c) most;
-          room = f .heard .room;
-          entries = f .heard .entries;
-        })
+      parts : (h d : List ℕ) → take k held ≡ h → drop at xs ≡ d → k ≤ length held → at ≤ length xs → Begun h d
+          → ((a : ℕ) → followed a ≡ inStepIf starts (feed a (holding (heldOf h) []) d)) → Given
+      parts h d eh ed front back b w =
+          let e : take (length xs - at) (drop at xs) ≡ d = to-end xs at ∙ ed in
+          record { front = front; back = back; taken = rw (eh, e) (to-take starts h d b (w 0)); work = λ a. rw (eh, e) (w a) }
+
+      pub parts-all : (inStep && fits held pointer xs) ≡ true → k ≡ length held → at ≡ 0 → starts ≡ true → Given
+      parts-all e ek ea es =
+          parts held xs (take-all k held (omega arith)) (ap (λ (i : ℕ). drop i xs) ea) (omega arith) (omega arith) to-fit
+          (λ a. rw es (is-on a n e))
+
+      module _ (e : (inStep && fits held pointer xs) ≡ false) (ek : k ≡ 0) where
+        -- nothing held
+        from : (d : List ℕ) → drop at xs ≡ d → at ≤ length xs → ((a : ℕ) → followed a ≡ inStepIf starts (feed a (holding nothing []) d)) → Given
+        from d ed back w =
+            parts [] d (ap (λ (i : ℕ). take i held) ek) ed (omega arith) back
+            (record { unfinished = empty-unfinished; short = omega arith; few = omega (arith, length-drop at xs, ap length ed, f .heard .few) }) w
+
+        pub parts-none : pointer ≡ 255 → at ≡ length xs → starts ≡ false → Given
+        parts-none p ea es = from [] (drop-of-length-le xs {i = at} (omega arith)) (omega arith) (λ a. rw es (is-skipped a n e p))
+
+        pub parts-entered : (pointer ≡ 255 → ⊥) → at ≡ pointer → starts ≡ true → Given
+        parts-entered p ea es =
+            from (drop pointer xs) (ap (λ (i : ℕ). drop i xs) ea) (omega (arith, f .heard .points n p)) (λ a. rw es (is-entered a n e p))

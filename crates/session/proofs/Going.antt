@@ -4,9 +4,9 @@ use native.Mathlib.Nat.{zero-add, suc-add}
 use native.Mathlib.Numerals.{add-one}
 use native.Mathlib.Omega.{arith}
 use mathlib.Core.Path.{_≡_, refl, sym, ap, _∙_, subst}
-use mathlib.Core.Bool.{Bool, true, false, true≢false, false≢true, _||_}
+use mathlib.Core.Bool.{Bool, true, false, _||_}
 use mathlib.Core.List.{List, [], _∷_, _++_, map, append-assoc, append-nil}
-use lib.ListN.{length, take, drop, set, length-append, length-drop, length-set, take-append-drop}
+use lib.ListN.{length, take, drop, set, length-append, length-drop, length-set, drop-of-length-le, take-append-drop}
 use lib.Dec.{ltb}
 use lib.Seq.{length-take-le, take-suc-set, drop-set-lt, drop-drop, take-nil}
 use Rattle.octets.specs.Parts.{written}
@@ -16,7 +16,7 @@ use Rattle.rules.specs.Cutting.{Cut, cutOf, behind}
 use Rattle.rules.proofs.Bounds.{joined-append, sound-held}
 use Rattle.rules.proofs.Status.{Order, upTo, past, order, status-short, status-part, status-full}
 use Rattle.rules.proofs.Cutting.{Whole, whole-size, cuts-unfinished, cuts-wrong, cuts-whole}
-use Rattle.session.specs.Asked.{Counted}
+use Rattle.session.specs.Asked.{Counted, Left}
 use Rattle.session.specs.Promised.{Cuts}
 use Rattle.session.proofs.Fitting.{Within, outside, status-outside, less-than-said}
 
@@ -123,54 +123,48 @@ module _ (held xs list₀ list : List ℕ) (packets at : ℕ) (g : Going held xs
       cont = cut-more;
     }
 
-  -- where the packets end: what is left is held, or a wrong length drops it
-  ends : (b : Bool) (left : List ℕ) → cutOf (drop at s) ≡ record { inStep = b; held = left; packets = [] }
-      → cutOf s ≡ record { inStep = b; held = left; packets = g .done }
-  ends b left e = g .cont ∙ ap (behind (g .done)) e ∙ simp append-nil
-
   wrote : list ≡ written (map length (g .done)) list₀
   wrote =
       let l : length (take packets list) ≡ packets = length-take-le packets list (g .small) in
       simp (g .lengths, l, ← g .rest, take-append-drop)
 
-  pub going-unfinished : status (drop at s) ≡ unfinished → Cuts held xs (record { packets = packets; octets = at; instep = true }) list₀ list
-  going-unfinished u =
-      let e = ends true (drop at s) (cuts-unfinished (drop at s) u) in
+  -- where the packets end, what is left is held, or a wrong length drops it
+  stops : (b : Bool) (left : List ℕ) (kept : ℕ) → cutOf (drop at s) ≡ record { inStep = b; held = left; packets = [] } → left ≡ drop kept s
+      → Left held xs kept → Cuts held xs (record { packets = packets; octets = at; kept = kept; instep = b }) list₀ list
+  stops b left kept h r l =
+      let e : cutOf s ≡ record { inStep = b; held = left; packets = g .done } = g .cont ∙ ap (behind (g .done)) h ∙ simp append-nil in
       record {
         packets = sym (ap (λ (c : Cut). length (c .packets)) e ∙ g .count);
         front = ap (λ (c : Cut). joined (c .packets)) e ∙ g .front;
         inStep = sym (ap (λ (c : Cut). c .inStep) e);
-        rest = λ h. ap (λ (c : Cut). c .held) e;
-        short = λ h. sound-held true (drop at s) u;
-        dropped = λ h. absurd (true≢false h);
+        rest = ap (λ (c : Cut). c .held) e ∙ r;
+        kept = l;
         within = g .within;
         past = g .past;
         lengths = wrote ∙ ap (λ (c : Cut). written (map length (c .packets)) list₀) (sym e);
       }
 
-  pub going-wrong : status (drop at s) ≡ wrong → Cuts held xs (record { packets = packets; octets = at; instep = false }) list₀ list
+  pub going-unfinished : status (drop at s) ≡ unfinished
+      → Cuts held xs (record { packets = packets; octets = at; kept = at; instep = true }) list₀ list
+  going-unfinished u =
+      stops true (drop at s) at (cuts-unfinished (drop at s) u) refl
+      (record { within = g .within; past = g .past; short = sound-held true (drop at s) u })
+
+  pub going-wrong : status (drop at s) ≡ wrong
+      → Cuts held xs (record { packets = packets; octets = at; kept = length held + length xs; instep = false }) list₀ list
   going-wrong u =
-      let e = ends false [] (cuts-wrong (drop at s) u) in
-      record {
-        packets = sym (ap (λ (c : Cut). length (c .packets)) e ∙ g .count);
-        front = ap (λ (c : Cut). joined (c .packets)) e ∙ g .front;
-        inStep = sym (ap (λ (c : Cut). c .inStep) e);
-        rest = λ h. absurd (false≢true h);
-        short = λ h. absurd (false≢true h);
-        dropped = λ h. ap (λ (c : Cut). c .held) e;
-        within = g .within;
-        past = g .past;
-        lengths = wrote ∙ ap (λ (c : Cut). written (map length (c .packets)) list₀) (sym e);
-      }
+      let d : drop (length held + length xs) s ≡ [] = drop-of-length-le s {i = length held + length xs} (omega (arith, length-append held xs)) in
+      stops false [] (length held + length xs) (cuts-wrong (drop at s) u) (sym d)
+      (record { within = omega arith; past = λ h. absurd (omega arith); short = rw d (omega arith) })
 
   -- the same by the code's tests, n being the length that the packet says
   module _ (n : ℕ) (e : n ≡ lengthIn (drop at s)) where
     pub stops-wrong : 6 ≤ length held + length xs - at → (ltb n 16 || ltb 251 n) ≡ true
-        → Cuts held xs (record { packets = packets; octets = at; instep = false }) list₀ list
+        → Cuts held xs (record { packets = packets; octets = at; kept = length held + length xs; instep = false }) list₀ list
     stops-wrong h t = going-wrong (status-outside (drop at s) (omega (arith, ahead)) (rw e at (outside n t)))
 
     pub stops-part : Within n → length held + length xs - at < n
-        → Cuts held xs (record { packets = packets; octets = at; instep = true }) list₀ list
+        → Cuts held xs (record { packets = packets; octets = at; kept = at; instep = true }) list₀ list
     stops-part v h =
         going-unfinished (status-part (drop at s) (omega (arith, e, v .least)) (omega (arith, e, v .greatest)) (omega (arith, e, ahead)))
 
@@ -187,5 +181,5 @@ module _ (held xs list₀ list : List ℕ) (packets at : ℕ) (g : Going held xs
           on = subst (λ (m : ℕ). Going held xs list₀ (set list packets m) (packets + 1) (at + m)) (sym e) (going-on w k r);
         }
 
-  pub stops-short : length held + length xs - at < 6 → Cuts held xs (record { packets = packets; octets = at; instep = true }) list₀ list
+  pub stops-short : length held + length xs - at < 6 → Cuts held xs (record { packets = packets; octets = at; kept = at; instep = true }) list₀ list
   stops-short h = going-unfinished (status-short (drop at s) (omega (arith, ahead)))

@@ -9,14 +9,14 @@ use mathlib.Core.List.{List, [], _∷_, map}
 use lib.ListN.{length, drop, getD, drop-of-length-le}
 use lib.Seq.{drop-cons}
 use lib.Dec.{ltb, leb}
-use borrow.Author.Tests.{lt-ltb, le-ltb, ltb-false}
-use Rattle.octets.specs.Numbers.{at, word}
+use borrow.Author.Tests.{lt-ltb, le-ltb, le-leb, lt-leb, ltb-false}
 use Rattle.octets.proofs.Tests.{or-left, or-right}
 use Rattle.rules.specs.Channel.{allowed, lengthIn}
 use Rattle.rules.specs.Bounds.{heldWrong}
 use Rattle.session.specs.Channel.{channelUnsound, anyUnsound, unsound}
 use Rattle.session.specs.declared.Channel.{Channel}
 use Rattle.session.specs.declared.Session.{Session}
+use Rattle.session.proofs.Fitting.{not-allowed}
 
 -- the length of an array of structs, as a struct's relation has it
 map-length : {X Y : Type 0} (f : X → Y) (l : List X) → length (map f l) ≡ length l
@@ -76,12 +76,28 @@ none false l = refl
 pub none-wrong : (b : Bool) (n : ℕ) (l : List ℕ) → n ≡ 0 → heldWrong b n l ≡ false
 none-wrong b n l e = ap (λ (k : ℕ). heldWrong b k l) e ∙ none b l
 
--- with something held, by the code's tests
-pub some-wrong : (b : Bool) (n : ℕ) (l : List ℕ) (m w : ℕ) → m ≡ n → (m ≡ 0 → ⊥) → w ≡ word (at l 4) (at l 5)
-    → ((ltb 250 m || not b) || (leb 6 m && (not (allowed (w + 7)) || leb (w + 7) m))) ≡ heldWrong b n l
-unfolding heldWrong
-some-wrong true n l m w e z h = rw (e, h)
-some-wrong false n l m w e z h = let p : ltb 0 n ≡ true = lt-ltb 0 n (omega (arith, e, z)) in rw (e, h, p)
+-- with something held, by the code's tests in their order
+module _ (b : Bool) (n : ℕ) (l : List ℕ) (z : n ≡ 0 → ⊥) where
+  some : heldWrong b n l ≡ ((ltb 250 n || not b) || (leb 6 n && (not (allowed (lengthIn l)) || leb (lengthIn l) n)))
+  unfolding heldWrong
+  some = go b
+    where
+      p : ltb 0 n ≡ true
+      p = lt-ltb 0 n (omega (arith, z))
+
+      go : (x : Bool) → heldWrong x n l ≡ ((ltb 250 n || not x) || (leb 6 n && (not (allowed (lengthIn l)) || leb (lengthIn l) n)))
+      go true = refl
+      go false = rw p
+
+  pub wrong-at-once : (ltb 250 n || not b) ≡ true → heldWrong b n l ≡ true
+  wrong-at-once e = some ∙ rw e
+
+  module _ (e : (ltb 250 n || not b) ≡ false) where
+    pub few-right : n < 6 → heldWrong b n l ≡ false
+    few-right h = some ∙ rw (e, lt-leb 6 n h)
+
+    pub length-wrong : 6 ≤ n → heldWrong b n l ≡ ((ltb (lengthIn l) 16 || ltb 251 (lengthIn l)) || leb (lengthIn l) n)
+    length-wrong h = some ∙ rw (e, le-leb 6 n h, not-allowed (lengthIn l))
 
 -- above 250 comes first
 pub held-most : (b : Bool) (n : ℕ) (l : List ℕ) → heldWrong b n l ≡ false → n ≤ 250

@@ -17,7 +17,7 @@ use Rattle.frame.specs.Statements.{PointerRight, Accepted}
 use Rattle.frame.specs.declared.Frame.{Frame}
 use Rattle.rules.specs.Channel.{lostSince, step}
 use Rattle.session.specs.Channel.{lastOf, view, channelUnsound, unsound}
-use Rattle.session.specs.Step.{Outcome, told, refused, counted, channelAt, pieceOf, ruled, accepted, heeded, outcome, Gives}
+use Rattle.session.specs.Step.{Outcome, refused, counted, channelAt, pieceOf, ruled, accepted, heeded, outcome, Gives}
 use Rattle.session.specs.Asked.{Points, Asked}
 use Rattle.session.specs.Promised.{Follows}
 use Rattle.session.specs.declared.Channel.{Channel}
@@ -29,7 +29,7 @@ use Rattle.session.specs.declared.channels.Followed.{Followed}
 -- ---- an accepted frame
 
 -- c is the frame's channel, wherever it was read from
-module _ (s : Session) (f : Frame) (xs : List ℕ) (i master : ℕ) (c : Channel) (ei : i ≡ f .channel) (ec : c ≡ channelAt s (f .channel))
+module _ (s : Session) (f : Frame) (xs : List ℕ) (master : ℕ) (c : Channel) (ec : c ≡ channelAt s (f .channel))
     (em : master ≡ lostSince (lastOf (s .heard) (s .master .0)) (f .master .0)) (r : Followed) (out list out′ list′ : List ℕ)
     (w : Follows (step (s .arrival) (view c) (pieceOf f xs)) r out list out′ list′) where
   follows : Follows (ruled s f xs) r out list out′ list′
@@ -38,13 +38,13 @@ module _ (s : Session) (f : Frame) (xs : List ℕ) (i master : ℕ) (c : Channel
 
   pub gives-accepted : Gives (accepted s f xs)
       (record {
-        session = record { t = s .t; arrival = s .arrival; master = f .master; heard = true; channels = set (s .channels) i (r .channel) };
+        session = record { t = s .t; arrival = s .arrival; master = f .master; heard = true; channels = set (s .channels) (f .channel) (r .channel) };
         answer = answer.Accepted (s .arrival) (f .channel) (r .lost) master (r .packets);
       })
       out list out′ list′
   unfolding accepted
   gives-accepted = record {
-    session = simp (ei, follows .channel);
+    session = simp (follows .channel);
     answers = simp (follows .lost, em, follows .packets);
     octets = follows .octets;
     lengths = follows .lengths;
@@ -52,14 +52,11 @@ module _ (s : Session) (f : Frame) (xs : List ℕ) (i master : ℕ) (c : Channel
 
 -- ---- the refusals in their order
 
-gives-refused : (s : Session) (n : ℕ) (r : Stepped) (out list : List ℕ) → r ≡ record { session = s; answer = answer.Refused n }
-    → Gives (refused s n) r out list out list
-gives-refused s n r out list e = record {
-  session = ap (λ (x : Stepped). x .session) e;
-  answers = ap (λ (x : Stepped). told (x .answer)) e;
-  octets = refl;
-  lengths = refl;
-}
+abbrev turnedDown : Session → ℕ → Stepped
+turnedDown s n = record { session = s; answer = answer.Refused n }
+
+gives-refused : (s : Session) (n : ℕ) (out list : List ℕ) → Gives (refused s n) (turnedDown s n) out list out list
+gives-refused s n out list = record { session = refl; answers = refl; octets = refl; lengths = refl }
 
 pointed : {pointer n : ℕ} → PointerRight pointer n → Points pointer n
 pointed w a b = ⊎-elim (λ l. l) (λ v. ⊎-elim (λ e. absurd (b e)) (λ e. absurd (a (e .0))) v) w
@@ -71,12 +68,12 @@ module _ (s : Session) (frame out list : List ℕ) where
   abbrev Scant : Bool
   Scant = ltb (length out) 501 || ltb (length list) 16
 
-  turned : (n : ℕ) (r : Stepped) → given ≡ refused s n → r ≡ record { session = s; answer = answer.Refused n } → Gives given r out list out list
-  turned n r e h = subst (λ (o : Outcome). Gives o r out list out list) (sym e) (gives-refused s n r out list h)
+  turned : (n : ℕ) → given ≡ refused s n → Gives given (turnedDown s n) out list out list
+  turned n e = subst (λ (o : Outcome). Gives o (turnedDown s n) out list out list) (sym e) (gives-refused s n out list)
 
-  pub scant : (r : Stepped) → Scant ≡ true → r ≡ record { session = s; answer = answer.Refused no.room } → Gives given r out list out list
+  pub scant : Scant ≡ true → Gives given (turnedDown s no.room) out list out list
   unfolding outcome pick
-  scant r t h = turned no.room r (simp t) h
+  scant t = turned no.room (simp t)
 
   module _ (t : Scant ≡ false) where
     pub room : 501 ≤ length out
@@ -85,14 +82,14 @@ module _ (s : Session) (frame out list : List ℕ) where
     pub entries : 16 ≤ length list
     entries = ltb-false _ _ (or-right (ltb (length out) 501) (ltb (length list) 16) t)
 
-    pub not-sound : (r : Stepped) → unsound s ≡ true → r ≡ record { session = s; answer = answer.Refused no.session } → Gives given r out list out list
+    pub not-sound : unsound s ≡ true → Gives given (turnedDown s no.session) out list out list
     unfolding outcome pick
-    not-sound r u h = turned no.session r (simp (t, u)) h
+    not-sound u = turned no.session (simp (t, u))
 
     module _ (u : unsound s ≡ false) where
-      pub used-up : (r : Stepped) → s .arrival ≡ 4294967295 → r ≡ record { session = s; answer = answer.Refused no.arrivals } → Gives given r out list out list
+      pub used-up : s .arrival ≡ 4294967295 → Gives given (turnedDown s no.arrivals) out list out list
       unfolding outcome pick
-      used-up r a h = turned no.arrivals r (simp (t, u, eq-eqb _ _ a)) h
+      used-up a = turned no.arrivals (simp (t, u, eq-eqb _ _ a))
 
       -- what is asked of the channel that takes an accepted frame
       pub asked : (f : Frame) (xs : List ℕ) (c : Channel) → Accepted (s .t) frame f → xs ≡ dataOf f frame → channelUnsound c ≡ false
@@ -109,12 +106,11 @@ module _ (s : Session) (frame out list : List ℕ) where
         unfolding outcome pick
         is-heeded = simp (t, u, ne-eqb _ _ a)
 
-        pub not-read : (n : ℕ) (r : Stepped) → refuse noFrame n ≡ readFrame (s .t) frame → r ≡ record { session = counted s; answer = answer.Refused n }
-            → Gives given r out list out list
+        pub not-read : (n : ℕ) → refuse noFrame n ≡ readFrame (s .t) frame → Gives given (turnedDown (counted s) n) out list out list
         unfolding pick
-        not-read n r e h =
-            subst (λ (o : Outcome). Gives o r out list out list) (sym (is-heeded ∙ ap (heeded (counted s) frame) (sym e)))
-            (gives-refused (counted s) n r out list h)
+        not-read n e =
+            subst (λ (o : Outcome). Gives o (turnedDown (counted s) n) out list out list) (sym (is-heeded ∙ ap (heeded (counted s) frame) (sym e)))
+            (gives-refused (counted s) n out list)
 
         pub read : (f : Frame) (xs : List ℕ) (r : Stepped) (out′ list′ : List ℕ) → accept f ≡ readFrame (s .t) frame → xs ≡ dataOf f frame
             → Gives (accepted (counted s) f xs) r out list out′ list′ → Gives given r out list out′ list′

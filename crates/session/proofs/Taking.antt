@@ -2,17 +2,17 @@
 use Prim.Native.Nat.{ℕ, _≤_}
 use native.Mathlib.Omega.{arith}
 use mathlib.Core.Path.{_≡_, refl, sym, ap, _∙_}
-use mathlib.Core.Bool.{Bool, true, false}
+use mathlib.Core.Bool.{Bool, _&&_}
 use mathlib.Core.List.{List, [], _++_, map}
 use lib.ListN.{length, take, drop, length-map}
 use Rattle.octets.specs.Parts.{written}
-use Rattle.rules.specs.Channel.{Handed, Work, nothing, holding, feed, answer}
+use Rattle.rules.specs.Channel.{Handed, Work, holding, feed, answer}
 use Rattle.rules.specs.Packets.{bare, joined}
 use Rattle.rules.specs.Cutting.{Cut, cutBy, cutOf}
 use Rattle.rules.proofs.Cutting.{cuts-on}
 use Rattle.session.specs.Channel.{heldOf, channelOf, stored}
-use Rattle.session.specs.Asked.{Taken, Counted, Front, Left}
-use Rattle.session.specs.Promised.{Cuts, Follows}
+use Rattle.session.specs.Asked.{Taken, Counted, Front}
+use Rattle.session.specs.Promised.{Cuts, inStepIf, Follows}
 use Rattle.session.specs.declared.Channel.{Channel}
 use Rattle.session.specs.declared.cutting.Found.{Found}
 
@@ -31,10 +31,7 @@ module _ (held xs out list : List ℕ) (t : Taken held xs out list) where
       room = omega (arith, k .within, t .begun .short, t .begun .few, t .room);
     }
 
-    pub to-hold : r .instep ≡ true → Left held xs (r .octets)
-    to-hold i = record { within = k .within; past = k .past; short = k .short i }
-
-    module _ (a count lost : ℕ) (out′ : List ℕ) (o : out′ ≡ written (take (r .octets) (held ++ xs)) out) where
+    module _ (a count lost : ℕ) (b : Bool) (out′ : List ℕ) (o : out′ ≡ written (take (r .octets) (held ++ xs)) out) where
       abbrev work : Work
       work = feed a (holding (heldOf held) []) xs
 
@@ -50,23 +47,15 @@ module _ (held xs out list : List ℕ) (t : Taken held xs out list) where
       packets : bare (work .packets) ≡ cutOf (held ++ xs) .packets
       packets = ap (λ (c : Cut). c .packets) same
 
-      follows : (x : Channel) (b : Bool) (rest : List ℕ) → r .instep ≡ b → cutOf (held ++ xs) .held ≡ rest
-          → x ≡ stored (channelOf count b (heldOf rest)) → Follows (answer count lost work) (record { channel = x; lost = lost; packets = r .packets }) out list out′ list′
-      follows x b rest i h e = record {
+      pub takes : (x : Channel) → x ≡ stored (channelOf count (b && r .instep) (heldOf (drop (r .kept) (held ++ xs))))
+          → Follows (answer count lost (inStepIf b work)) (record { channel = x; lost = lost; packets = r .packets }) out list out′ list′
+      takes x e = record {
         channel =
             e
-            ∙ ap (λ (l : List ℕ). stored (channelOf count b (heldOf l))) (sym (is-held ∙ h))
-            ∙ ap (λ (s : Bool). stored (channelOf count s (work .held))) (sym (in-step ∙ i));
+            ∙ ap (λ (l : List ℕ). stored (channelOf count (b && r .instep) (heldOf l))) (sym (is-held ∙ k .rest))
+            ∙ ap (λ (s : Bool). stored (channelOf count (b && s) (work .held))) (sym in-step);
         lost = refl;
         packets = k .packets ∙ ap length (sym packets) ∙ length-map (work .packets) (λ (p : Handed). p .packet);
         octets = o ∙ ap (λ (l : List ℕ). written l out) (sym (ap joined packets ∙ k .front));
         lengths = k .lengths ∙ ap (λ (l : List (List ℕ)). written (map length l) list) (sym packets);
       }
-
-      pub takes-on : (x : Channel) → r .instep ≡ true → x ≡ stored (channelOf count true (heldOf (drop (r .octets) (held ++ xs))))
-          → Follows (answer count lost work) (record { channel = x; lost = lost; packets = r .packets }) out list out′ list′
-      takes-on x i e = follows x true (drop (r .octets) (held ++ xs)) i (k .rest i) e
-
-      pub takes-off : (x : Channel) → r .instep ≡ false → x ≡ stored (channelOf count false nothing)
-          → Follows (answer count lost work) (record { channel = x; lost = lost; packets = r .packets }) out list out′ list′
-      takes-off x i e = follows x false [] i (k .dropped i) e

@@ -1,14 +1,15 @@
 -- What the crate's private functions promise.
 use Prim.Native.Nat.{ℕ, _+_, _≤_, _<_}
 use mathlib.Core.Path.{_≡_}
-use mathlib.Core.List.{List, [], _++_, map}
-use mathlib.Core.Bool.{true, false}
+use mathlib.Core.List.{List, _++_, map}
+use mathlib.Core.Bool.{Bool, _&&_}
 use lib.ListN.{length, take, drop}
 use Rattle.octets.specs.Parts.{written}
-use Rattle.rules.specs.Channel.{Answer}
+use Rattle.rules.specs.Channel.{Work, Answer}
 use Rattle.rules.specs.Packets.{bare, joined}
 use Rattle.rules.specs.Cutting.{cutOf}
 use Rattle.session.specs.Channel.{stored}
+use Rattle.session.specs.Asked.{Left}
 use Rattle.session.specs.declared.cutting.Found.{Found}
 use Rattle.session.specs.declared.channels.Followed.{Followed}
 
@@ -17,12 +18,15 @@ pub record Cuts (held xs : List ℕ) (r : Found) (list list′ : List ℕ) : Typ
   pub packets : r .packets ≡ length (cutOf (held ++ xs) .packets)
   pub front : joined (cutOf (held ++ xs) .packets) ≡ take (r .octets) (held ++ xs)
   pub inStep : r .instep ≡ cutOf (held ++ xs) .inStep
-  pub rest : r .instep ≡ true → cutOf (held ++ xs) .held ≡ drop (r .octets) (held ++ xs)
-  pub short : r .instep ≡ true → length (drop (r .octets) (held ++ xs)) ≤ 250
-  pub dropped : r .instep ≡ false → cutOf (held ++ xs) .held ≡ []
+  pub rest : cutOf (held ++ xs) .held ≡ drop (r .kept) (held ++ xs)
+  pub kept : Left held xs (r .kept)
   pub within : r .octets ≤ length held + length xs
   pub past : r .octets < length held → r .octets ≡ 0
   pub lengths : list′ ≡ written (map length (cutOf (held ++ xs) .packets)) list
+
+-- Rule 5's work, in step only if b.
+abbrev pub inStepIf : Bool → Work → Work
+inStepIf b w = record { inStep = b && w .inStep; held = w .held; packets = w .packets }
 
 -- A channel after a frame, and what is handed out, by what the rules answer.
 pub record Follows (a : Answer) (r : Followed) (out list out′ list′ : List ℕ) : Type 0 where

@@ -10,10 +10,11 @@ ghost use Rattle.rules.specs.Channel.{lengthIn, fits, pointerTo};
 ghost use Rattle.session.specs.Asked.{Begun, Counted, Front};
 ghost use Rattle.session.specs.Promised.{Cuts};
 
-// The packets found: how many, how many octets they have, and in step or not afterwards.
+// The packets found: how many, how many octets they have, where what stays held begins, and in step or not afterwards.
 pub(crate) struct Found {
     pub packets: usize,
     pub octets: usize,
+    pub kept: usize,
     pub instep: bool,
 }
 
@@ -44,7 +45,7 @@ fn points(pointer: u8, place: usize, n: usize) -> bool
     ensures { λ r. ⌜ r ≡ eqb pointer (pointerTo place n) ⌝ }
 {
     if place < n {
-        return octets::wide(pointer) == place;
+        return pointer as usize == place;
     }
     pointer == 255
 }
@@ -83,6 +84,7 @@ pub(crate) fn cut(held: &[u8], data: &[u8], lengths: &mut [u16]) -> Found
             return Found {
                 packets,
                 octets: at,
+                kept: all,
                 instep: false,
             };
         }
@@ -90,6 +92,7 @@ pub(crate) fn cut(held: &[u8], data: &[u8], lengths: &mut [u16]) -> Found
             return Found {
                 packets,
                 octets: at,
+                kept: at,
                 instep: true,
             };
         }
@@ -100,6 +103,7 @@ pub(crate) fn cut(held: &[u8], data: &[u8], lengths: &mut [u16]) -> Found
     Found {
         packets,
         octets: at,
+        kept: at,
         instep: true,
     }
 }

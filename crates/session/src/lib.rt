@@ -103,8 +103,7 @@ impl Session {
         }
         let mut i = 0;
         while i < 8 {
-            let channel = self.channels[i];
-            if channel.unsound() {
+            if self.channels[i].unsound() {
                 return true;
             }
             i += 1;
@@ -112,68 +111,59 @@ impl Session {
         false
     }
 
-    // How many frames of all channels were lost before the one with this master count.
-    fn lost(self, master: MasterCount) -> u8
-        ensures { λ r. ⌜ r ≡ lostSince (lastOf (self .heard) (self .master .0)) (master .0) ⌝ }
+    // How many frames of all channels were lost before the one with this master count, after the last heard, if one was.
+    fn lost(heard: bool, last: MasterCount, master: MasterCount) -> u8
+        ensures { λ r. ⌜ r ≡ lostSince (lastOf heard (last .0)) (master .0) ⌝ }
     {
-        if self.heard {
-            let last = self.master;
+        if heard {
             return master.lost(last);
         }
         0
     }
 
-    // The session as it is, and a refusal.
-    fn refused(self, refusal: u16) -> Stepped
-        ensures { λ r. ⌜ r ≡ record { session = self; answer = StepAnswer.Refused refusal } ⌝ }
-    {
-        let answer = StepAnswer::Refused(refusal);
-        Stepped {
-            session: self,
-            answer,
-        }
-    }
-
     // The session after a frame is offered; the packets that it completes are end to end at the start of octets, their lengths at the
     // start of lengths. Else the first refusal of 1, 4, 3 and the frame's 10 to 15, of which 10 to 15 use up an arrival number.
     // What is lent stays beyond that.
-    pub fn step(self, frame: &[u8], octets: &mut [u8], lengths: &mut [u16]) -> Stepped
+    pub fn step(mut self, frame: &[u8], octets: &mut [u8], lengths: &mut [u16]) -> Stepped
         ensures { λ r. ⌜ Steps self (now (frame .entry)) (now (octets .entry)) (now (lengths .entry)) r (now (octets .exit)) (now (lengths .exit)) ⌝ }
     {
+        let answer;
         if (octets.len() < 501) | (lengths.len() < 16) {
-            return self.refused(answer::ROOM);
-        }
-        if self.unsound() {
-            return self.refused(answer::SESSION);
-        }
-        if self.arrival == 4294967295 {
-            return self.refused(answer::ARRIVALS);
-        }
-        let mut next = self;
-        next.arrival = self.arrival + 1;
-        match Frame::read(self.t, frame) {
-            FrameRead::Refused(refusal) => next.refused(refusal),
-            FrameRead::Frame(f) => {
-                let i = octets::wide(f.channel);
-                let channel = self.channels[i];
-                let followed = channel.heed(f, f.data(frame), octets, lengths);
-                let channel = followed.channel;
-                let count = f.master;
-                next.channels[i] = channel;
-                next.master = count;
-                next.heard = true;
-                let answer = StepAnswer::Accepted {
-                    arrival: next.arrival,
-                    channel: f.channel,
-                    lost: followed.lost,
-                    master: self.lost(count),
-                    packets: followed.packets,
-                };
-                Stepped {
-                    session: next,
-                    answer,
+            answer = StepAnswer::Refused(answer::ROOM);
+        } else if self.unsound() {
+            answer = StepAnswer::Refused(answer::SESSION);
+        } else if self.arrival == 4294967295 {
+            answer = StepAnswer::Refused(answer::ARRIVALS);
+        } else {
+            self.arrival += 1;
+            match Frame::read(self.t, frame) {
+                FrameRead::Refused(refusal) => {
+                    answer = StepAnswer::Refused(refusal);
+                }
+                FrameRead::Frame(f) => {
+                    let i = f.channel as usize;
+                    let followed = self.channels[i]
+                        .heed(f.count, f.pointer, f.data(frame), octets, lengths);
+                    let channel = followed.channel;
+                    let last = self.master;
+                    let master = f.master;
+                    let lost = Session::lost(self.heard, last, master);
+                    self.channels[i] = channel;
+                    self.master = master;
+                    self.heard = true;
+                    answer = StepAnswer::Accepted {
+                        arrival: self.arrival,
+                        channel: f.channel,
+                        lost: followed.lost,
+                        master: lost,
+                        packets: followed.packets,
+                    };
                 }
             }
+        }
+        Stepped {
+            session: self,
+            answer,
         }
     }
 }

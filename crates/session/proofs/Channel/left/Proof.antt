@@ -1,7 +1,6 @@
 -- `Channel::left` meets its contract.
 use borrow.Author.Needs.{needs}
 use mathlib.Core.Path.{ap, _∙_}
-use mathlib.Core.Bool.{true}
 use mathlib.Core.List.{List}
 use Prim.Native.Nat.{ℕ}
 use Rattle.session.specs.Channel.{heldOf, channelOf, stored}
@@ -15,7 +14,7 @@ holding-requires c κs = left-all-short _ _ _ (c .before .before .before .pre) (
 returns : tie.Need-returns
 returns c =
     c .holding .ensures
-    ∙ ap (λ (l : List ℕ). stored (channelOf (c .before .before .before .before .args .count .0) true (heldOf l)))
+    ∙ ap (λ (l : List ℕ). stored (channelOf (c .before .before .before .before .args .count .0) (c .before .before .before .before .args .instep) (heldOf l)))
     (left-all _ _ _ (c .before .before .before .before .pre) (c .before .if1 .taken))
 
 holding-requires-2 : tie.Need-holding-requires-2
@@ -24,7 +23,7 @@ holding-requires-2 c κs = left-some-short _ _ _ (c .before .before .before .bef
 returns-2 : tie.Need-returns-2
 returns-2 c =
     c .holding2 .ensures
-    ∙ ap (λ (l : List ℕ). stored (channelOf (c .before .before .before .before .before .before .args .count .0) true (heldOf l)))
+    ∙ ap (λ (l : List ℕ). stored (channelOf (c .before .before .before .before .before .before .args .count .0) (c .before .before .before .before .before .before .args .instep) (heldOf l)))
     (left-some _ _ _ (c .before .before .before .before .before .before .pre) (c .before .before .before .if1 .left))
 
 pub left-spec : {M : Type 1} → statement M

@@ -1,16 +1,15 @@
 -- `Channel::lost` meets its contract.
 use borrow.Author.Needs.{needs}
 use Rattle.rules.specs.Channel.{lostSince}
-use Rattle.session.specs.Channel.{view}
 use Rattle.session.proofs.Channel.lost.Statement.{statement}
 use Rattle.session.proofs.Channel.lost.Tie as tie
 
 returns : tie.Need-returns
-unfolding lostSince view
-returns c = simp (c .before .before .if1 .taken) (c .lost .ensures)
+unfolding lostSince
+returns c = simp (c .before .if1 .taken) (c .lost .ensures)
 
 returns-2 : tie.Need-returns-2
-unfolding lostSince view
+unfolding lostSince
 returns-2 c = simp (c .if1 .left)
 
 pub lost-spec : {M : Type 1} → statement M

@@ -1,21 +1,25 @@
--- `Channel::unsound` meets its contract: nothing held is never wrong, and else the same tests.
+-- `Channel::unsound` meets its contract: nothing held is never wrong, and else the tests in their order.
 use borrow.Author.Needs.{needs}
-use mathlib.Core.Path.{sym, _∙_}
-use Rattle.session.proofs.Soundness.{none-wrong, some-wrong}
+use mathlib.Core.Path.{sym}
+use Rattle.session.proofs.Soundness.{none-wrong, wrong-at-once, few-right, length-wrong}
 use Rattle.session.proofs.Channel.unsound.Statement.{statement}
 use Rattle.session.proofs.Channel.unsound.Tie as tie
 
 returns : tie.Need-returns
-returns c = let a = c .before .before .args .t1 in sym (none-wrong (a .instep) (a .length) (a .held) (sym (c .before .wide .ensures) ∙ c .if1 .taken))
+returns c = sym (none-wrong _ _ _ (c .if1 .taken))
 
 returns-2 : tie.Need-returns-2
-returns-2 c =
-    let a = c .before .before .before .before .before .args .t1 in
-    some-wrong (a .instep) (a .length) (a .held) (c .before .before .before .before .wide .result) (c .word .result) (c .before .before .before .before .wide .ensures) (c .before .before .before .if1 .left) (c .word .ensures)
+returns-2 c = sym (wrong-at-once _ _ _ (c .before .if1 .left) (c .if2 .taken))
+
+returns-3 : tie.Need-returns-3
+returns-3 c = sym (few-right _ _ _ (c .before .before .if1 .left) (c .before .if2 .left) (c .if3 .taken))
+
+returns-4 : tie.Need-returns-4
+returns-4 c = rw (c .word .ensures) (sym (length-wrong _ _ _ (c .before .before .before .before .before .if1 .left) (c .before .before .before .before .if2 .left) (c .before .before .before .if3 .left)))
 
 pub unsound-spec : {M : Type 1} → statement M
 unsound-spec =
     tie.close
     (tie.spec
-    (λ c κs. search needs) returns (λ c. search needs) (λ c. search needs) (λ c κs. search needs) (λ c. search needs) (λ c. search needs)
-    returns-2)
+    (λ c. search needs) returns returns-2 returns-3 (λ c. search needs) (λ c. search needs) (λ c κs. search needs) (λ c. search needs) (λ c. search needs)
+    returns-4)

@@ -6,7 +6,7 @@ use Rattle.session.proofs.Session.lost.Tie as tie
 
 returns : tie.Need-returns
 unfolding lostSince
-returns c = simp (c .before .before .if1 .taken) (c .lost .ensures)
+returns c = simp (c .before .if1 .taken) (c .lost .ensures)
 
 returns-2 : tie.Need-returns-2
 unfolding lostSince
