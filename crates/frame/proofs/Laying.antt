@@ -8,13 +8,13 @@ use mathlib.Core.Logic.{⊎-elim}
 use borrow.Author.Tests.{leb-true, eqb-true, not-false}
 use lib.ListN.{length, take, length-append}
 use lib.Seq.{take-at}
-use lib.Dec.{leb}
+use lib.Dec.{leb, eqb}
 use Rattle.octets.specs.Parts.{put, written}
 use Rattle.octets.proofs.Placing.{put-first, after}
-use Rattle.octets.proofs.Tests.{facts, or-left, and-true-right, or-true, and-false}
+use Rattle.octets.proofs.Tests.{facts, or-right, and-true-right, or-true, and-false}
 use Rattle.crc.specs.Check.{frameCheck, octetsOf}
 use Rattle.crc.specs.Check.Order.{lowFirst}
-use Rattle.frame.specs.Address.{sign, space, strange, breaks, callsignWrong, addressOctets}
+use Rattle.frame.specs.Address.{sign, space, breaks, callsignWrong, addressOctets}
 use Rattle.frame.specs.Asked.{Fits, Room}
 use Rattle.frame.specs.Frame.{flagOf, pointerWrong}
 use Rattle.frame.specs.Writer.{fieldsWrong, headOf, front, statusOctet, body, sealed, frameOctets}
@@ -30,8 +30,8 @@ sign-low x h =
 
 break-low : (before x : ℕ) → breaks before x ≡ false → x ≤ 90
 break-low before x h =
-    ⊎-elim (λ p. sign-low x (not-false _ p)) (λ p. omega (arith, eqb-true x space (not-false _ p)))
-    (and-false (not (sign x)) _ (or-left (strange x) _ h))
+    ⊎-elim (λ p. omega (arith, eqb-true x space (not-false _ p))) (λ p. sign-low x (not-false _ (or-right (eqb before space) _ p)))
+    (and-false (not (eqb x space)) _ h)
 
 fits : (a : Address) → callsignWrong (a .callsign) ≡ false → a .ssid ≤ 15 → Fits a
 fits a h l = search (facts, sign-low, break-low, h)

@@ -2,7 +2,7 @@
 ghost use mathlib.Core.Path.{_≡_};
 ghost use lib.ListN.{length};
 ghost use Prim.Native.Nat.{_≤_};
-ghost use Rattle.frame.specs.Address.{sign, strange, breaks, callsignWrong, blank, startWrong, nextWrong, ssidWrong, firstWrong, callsignOf, addressOf, addressOctets};
+ghost use Rattle.frame.specs.Address.{sign, breaks, callsignWrong, blank, shiftedSign, startWrong, nextWrong, ssidWrong, firstWrong, callsignOf, addressOf, addressOctets};
 ghost use Rattle.frame.specs.Asked.{Fits};
 use super::Address;
 use super::Callsign;
@@ -25,18 +25,11 @@ fn sign(x: u8) -> bool
     ((65 <= x) & (x <= 90)) | ((48 <= x) & (x <= 57))
 }
 
-// Whether x is neither a letter or digit nor a space.
-fn strange(x: u8) -> bool
-    ensures { λ r. ⌜ r ≡ strange x ⌝ }
-{
-    !sign(x) & (x != SPACE)
-}
-
 // Whether x may not stand behind the character before.
 fn breaks(before: u8, x: u8) -> bool
     ensures { λ r. ⌜ r ≡ breaks before x ⌝ }
 {
-    strange(x) | (sign(x) & (before == SPACE))
+    (x != SPACE) & ((before == SPACE) | !sign(x))
 }
 
 // Whether c is not one to six letters and digits, then only spaces.
@@ -64,19 +57,32 @@ fn blank(s: &[u8]) -> bool
         & (s[5] == BLANK)
 }
 
+// Whether x is a letter or digit, shifted left one bit.
+fn shifted_sign(x: u8) -> bool
+    ensures { λ r. ⌜ r ≡ shiftedSign x ⌝ }
+{
+    (x % 2 == 0) & sign(x / 2)
+}
+
 // Whether the first octet is wrong.
 fn start_wrong(s: &[u8]) -> bool
     requires { ⌜ 7 ≤ length (now s) ⌝ }
     ensures { λ r. ⌜ r ≡ startWrong (now (s .entry)) ⌝ }
 {
-    (s[0] % 2 != 0) | strange(s[0] / 2) | blank(s)
+    if s[0] == BLANK {
+        return blank(s);
+    }
+    !shifted_sign(s[0])
 }
 
 // Whether a later character's octet x is wrong behind the octet before.
 fn next_wrong(before: u8, x: u8) -> bool
     ensures { λ r. ⌜ r ≡ nextWrong before x ⌝ }
 {
-    (x % 2 != 0) | breaks(before / 2, x / 2)
+    if x == BLANK {
+        return false;
+    }
+    (before == BLANK) | !shifted_sign(x)
 }
 
 // Whether the SSID octet x is wrong, where the last bit is to be last.
@@ -94,20 +100,13 @@ pub(crate) fn first_wrong(s: &[u8], last: u8) -> u8
     if start_wrong(s) {
         return 0;
     }
-    if next_wrong(s[0], s[1]) {
-        return 1;
-    }
-    if next_wrong(s[1], s[2]) {
-        return 2;
-    }
-    if next_wrong(s[2], s[3]) {
-        return 3;
-    }
-    if next_wrong(s[3], s[4]) {
-        return 4;
-    }
-    if next_wrong(s[4], s[5]) {
-        return 5;
+    let mut i = 0;
+    while i < 5 {
+        let next = i + 1;
+        if next_wrong(s[i], s[next]) {
+            return next as u8;
+        }
+        i = next;
     }
     if ssid_wrong(s[6], last) {
         return 6;
