@@ -13,7 +13,7 @@ use Rattle.octets.specs.Pick.{pick}
 use Rattle.octets.proofs.Choices.{passed}
 use Rattle.octets.proofs.Runs.{run, run-is}
 use Rattle.octets.proofs.Tests.{facts, or-left, or-right, and-false}
-use Rattle.frame.specs.Address.{sign, space, breaks, callsignWrong, shiftedSign, blank, startWrong, nextWrong, ssidWrong, wrongBehind, firstWrong, addressWrong, callsignOf, addressOf, addressOctets}
+use Rattle.frame.specs.Address.{sign, space, breaks, callsignWrong, shiftedSign, startWrong, nextWrong, ssidWrong, wrongBehind, firstWrong, addressWrong, callsignOf, addressOf, addressOctets}
 use Rattle.frame.specs.declared.Address.{Address}
 
 half : (x : ℕ) → 2 * x / 2 ≡ x
@@ -37,12 +37,9 @@ blank-of x = blank-as x _ refl
 next-of : (before x : ℕ) → nextWrong (2 * before) (2 * x) ≡ breaks before x
 next-of before x = simp (blank-of, half, even)
 
--- a letter or digit is right as the first octet
-start-right : (x : ℕ) (all : Bool) → sign x ≡ true → pick (eqb (2 * x) 64) all (not (shiftedSign (2 * x))) ≡ false
-unfolding pick
-start-right x all h =
-    let e : eqb x space ≡ false = ne-eqb x space (λ e. true≢false (sym h ∙ ap sign e)) in
-    simp (blank-of, e, half, even, h)
+-- a letter or digit is no space
+no-space : (x : ℕ) → sign x ≡ true → eqb (2 * x) 64 ≡ false
+no-space x h = blank-as x false (ne-eqb x space (λ e. true≢false (sym h ∙ ap sign e)))
 
 -- ---- what is written is right, and reads back
 
@@ -67,7 +64,9 @@ module _ (a : Address) (last : ℕ) (callsign : callsignWrong (a .callsign) ≡ 
       let k = parts (a .ssid) last ssid low in
       let c = a .callsign in
       let r = six (not (sign (c .0))) (breaks (c .0) (c .1)) (breaks (c .1) (c .2)) (breaks (c .2) (c .3)) (breaks (c .3) (c .4)) (breaks (c .4) (c .5)) callsign in
-      let start = start-right (c .0) (blank (addressOctets a last)) (not-false _ (r .0)) in
+      let first : sign (c .0) ≡ true = not-false _ (r .0) in
+      let filled = no-space (c .0) first in
+      let start : startWrong (2 * c .0) ≡ false = simp (filled, half, even, first) in
       let end : ssidWrong (96 + 2 * a .ssid + last) last ≡ false = simp (k .top, k .low, eq-eqb last last refl) in
       ap (λ (x : ℕ). ltb x 7)
       (sym
@@ -77,7 +76,7 @@ module _ (a : Address) (last : ℕ) (callsign : callsignWrong (a .callsign) ≡ 
       (passed _ _ _ _ (next-of (c .2) (c .3) ∙ r .3)
       (passed _ _ _ _ (next-of (c .3) (c .4) ∙ r .4)
       (passed _ _ _ _ (next-of (c .4) (c .5) ∙ r .5)
-      (passed _ _ _ _ end refl))))))))
+      (passed _ _ _ _ filled (passed _ _ _ _ end refl)))))))))
 
   pub octets-back : addressOf (addressOctets a last) ≡ a
   octets-back = let k = parts (a .ssid) last ssid low in simp (half, k .ssid)
@@ -98,28 +97,19 @@ record Signed (x : ℕ) : Type 0 where
 signed : (x : ℕ) → not (shiftedSign x) ≡ false → Signed x
 signed x h = search facts
 
--- the first octet: a letter or digit, or a space before something else
-started : (x : ℕ) (all b : Bool) → eqb x 64 ≡ b → pick b all (not (shiftedSign x)) ≡ false → ((x ≡ 64) × (all ≡ false)) ⊎ Signed x
-unfolding pick
-started x all true e h = inl (eqb-true x 64 e, h)
-started x all false e h = inr (signed x h)
+-- a space and a letter or digit have the low bit 0
+even-of : (x : ℕ) → (not (eqb x 64) ≡ false) ⊎ (not (shiftedSign x) ≡ false) → x % 2 ≡ 0
+even-of x h = ⊎-elim (λ p. omega (arith, eqb-true x 64 (not-false _ p))) (λ p. signed x p .even) h
 
 -- a later character's octet that isn't wrong
 record Next (before x : ℕ) : Type 0 where
   even : x % 2 ≡ 0
   follows : breaks (before / 2) (x / 2) ≡ false
-  space : before ≡ 64 → x ≡ 64
 
 next : (before x : ℕ) → before % 2 ≡ 0 → nextWrong before x ≡ false → Next before x
 next before x b h =
-    let cases = and-false (not (eqb x 64)) _ h in
-    let e : x % 2 ≡ 0 =
-    ⊎-elim (λ p. omega (arith, eqb-true x 64 (not-false _ p))) (λ p. signed x (or-right (eqb before 64) _ p) .even) cases in
-    record {
-      even = e;
-      follows = sym (next-of (before / 2) (x / 2)) ∙ simp (twice before b, twice x e) h;
-      space = λ q. ⊎-elim (λ p. eqb-true x 64 (not-false _ p)) (λ p. absurd (eqb-false before 64 (or-left (eqb before 64) _ p) q)) cases;
-    }
+    let e = even-of x (⊎-elim inl (λ p. inr (or-right (eqb before 64) _ p)) (and-false (not (eqb x 64)) _ h)) in
+    record { even = e; follows = sym (next-of (before / 2) (x / 2)) ∙ simp (twice before b, twice x e) h }
 
 ssid-of : (x last : ℕ) → ssidWrong x last ≡ false → 96 + 2 * (x / 2 % 16) + last ≡ x
 ssid-of x last h =
@@ -129,26 +119,18 @@ ssid-of x last h =
 
 -- the octets behind place i
 abbrev Rights : List ℕ → ℕ → ℕ → ℕ → Type 0
-Rights s last i zero = ssidWrong (at s 6) last ≡ false
+Rights s last i zero = (eqb (at s 0) 64 ≡ false) × (ssidWrong (at s 6) last ≡ false)
 Rights s last i (suc n) = Next (at s i) (at s (i + 1)) × Rights s last (i + 1) n
 
 rights : (s : List ℕ) (last i n : ℕ) → i + n ≤ 5 → at s i % 2 ≡ 0 → 7 ≤ wrongBehind s last i n → Rights s last i n
 unfolding wrongBehind
-rights s last i zero l e h = later (ssidWrong (at s 6) last) 6 7 (omega arith) h .0
+rights s last i zero l e h =
+    let p = later (eqb (at s 0) 64) 0 _ (omega arith) h in
+    (p .0, later (ssidWrong (at s 6) last) 6 7 (omega arith) (p .1) .0)
 rights s last i (suc n) l e h =
     let p = later (nextWrong (at s i) (at s (i + 1))) _ _ (omega arith) h in
     let k = next (at s i) (at s (i + 1)) e (p .0) in
     (k, rights s last (i + 1) n (omega arith) (k .even) (p .1))
-
--- a callsign that begins with a space, with nothing wrong behind it, is blank
-all-blank : (s : List ℕ) (last : ℕ) → at s 0 ≡ 64 → Rights s last 0 5 → blank s ≡ true
-all-blank s last e₀ r =
-    let e₁ = r .0 .space e₀ in
-    let e₂ = r .1 .0 .space e₁ in
-    let e₃ = r .1 .1 .0 .space e₂ in
-    let e₄ = r .1 .1 .1 .0 .space e₃ in
-    let e₅ = r .1 .1 .1 .1 .0 .space e₄ in
-    simp (e₀, e₁, e₂, e₃, e₄, e₅)
 
 module _ (s : List ℕ) (last : ℕ) (h : addressWrong s last ≡ false) where
   record Accepted : Type 0 where
@@ -158,12 +140,12 @@ module _ (s : List ℕ) (last : ℕ) (h : addressWrong s last ≡ false) where
   accepted : Accepted
   unfolding firstWrong
   accepted =
-      let p = later (startWrong s) 0 _ (omega arith) (ltb-false _ _ h) in
-      let start = started (at s 0) (blank s) _ refl (p .0) in
-      let e : at s 0 % 2 ≡ 0 = ⊎-elim (λ q. omega (arith, q .0)) (λ q. q .even) start in
-      let r = rights s last 0 5 (omega arith) e (p .1) in
+      let p = later (startWrong (at s 0)) 0 _ (omega arith) (ltb-false _ _ h) in
+      let start = and-false (not (eqb (at s 0) 64)) _ (p .0) in
+      let r = rights s last 0 5 (omega arith) (even-of (at s 0) start) (p .1) in
+      let filled = r .1 .1 .1 .1 .1 .0 in
       record {
-        first = ⊎-elim (λ q. absurd (true≢false (sym (all-blank s last (q .0) r) ∙ q .1))) (λ q. q) start;
+        first = ⊎-elim (λ q. absurd (true≢false (sym (not-false _ q) ∙ filled))) (signed (at s 0)) start;
         rest = r;
       }
 
@@ -184,7 +166,7 @@ module _ (s : List ℕ) (last : ℕ) (h : addressWrong s last ≡ false) where
   pub octets-of : length s ≡ 7 → addressOctets (addressOf s) last ≡ s
   octets-of n =
       let r = accepted .rest in
-      let z = ssid-of (at s 6) last (r .1 .1 .1 .1 .1) in
+      let z = ssid-of (at s 6) last (r .1 .1 .1 .1 .1 .1) in
       let end : drop 7 s ≡ [] = drop-of-length-le s {i = 7} (omega arith) in
       let same : addressOctets (addressOf s) last ≡ run 0 7 s =
       simp (

@@ -31,13 +31,9 @@ callsignWrong c =
 abbrev pub shiftedSign : ℕ → Bool
 shiftedSign x = eqb (x % 2) 0 && sign (x / 2)
 
--- All six are spaces, shifted: 0x40.
-abbrev pub blank : List ℕ → Bool
-blank s = eqb (at s 0) 64 && eqb (at s 1) 64 && eqb (at s 2) 64 && eqb (at s 3) 64 && eqb (at s 4) 64 && eqb (at s 5) 64
-
--- The first octet is wrong if it is neither a letter or digit nor a space, and for an all-blank callsign.
-abbrev pub startWrong : List ℕ → Bool
-startWrong s = pick (eqb (at s 0) 64) (blank s) (not (shiftedSign (at s 0)))
+-- The first octet x is wrong if it is neither a letter or digit nor a space (0x40).
+abbrev pub startWrong : ℕ → Bool
+startWrong x = not (eqb x 64) && not (shiftedSign x)
 
 -- A later character's octet x is right if it is a space, or a letter or digit behind another.
 abbrev pub nextWrong : ℕ → ℕ → Bool
@@ -47,14 +43,15 @@ nextWrong before x = not (eqb x 64) && (eqb before 64 || not (shiftedSign x))
 abbrev pub ssidWrong : ℕ → ℕ → Bool
 ssidWrong x last = not (eqb (x / 32) 3) || not (eqb (x % 2) last)
 
--- The first wrong octet behind place i, where n characters stand behind it, then the SSID octet; 7 for none.
+-- The first wrong octet, where none up to place i is wrong and n characters are left; then the SSID octet; 7 for none.
+-- Behind a first space only spaces are right: with all of them right the callsign is all blank, and its first octet is wrong.
 unfoldable pub wrongBehind : List ℕ → ℕ → ℕ → ℕ → ℕ
-wrongBehind s last i zero = pick (ssidWrong (at s 6) last) 6 7
+wrongBehind s last i zero = pick (eqb (at s 0) 64) 0 (pick (ssidWrong (at s 6) last) 6 7)
 wrongBehind s last i (suc n) = pick (nextWrong (at s i) (at s (i + 1))) (i + 1) (wrongBehind s last (i + 1) n)
 
 -- The first octet of an address that is wrong, 0 to 6, or 7 for none. The last bit is 0 (destination) or 1 (source).
 unfoldable pub firstWrong : List ℕ → ℕ → ℕ
-firstWrong s last = pick (startWrong s) 0 (wrongBehind s last 0 5)
+firstWrong s last = pick (startWrong (at s 0)) 0 (wrongBehind s last 0 5)
 
 -- Whether there is one.
 abbrev pub addressWrong : List ℕ → ℕ → Bool

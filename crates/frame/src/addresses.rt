@@ -2,7 +2,7 @@
 ghost use mathlib.Core.Path.{_≡_};
 ghost use lib.ListN.{length};
 ghost use Prim.Native.Nat.{_≤_};
-ghost use Rattle.frame.specs.Address.{sign, breaks, callsignWrong, blank, shiftedSign, startWrong, nextWrong, ssidWrong, firstWrong, callsignOf, addressOf, addressOctets};
+ghost use Rattle.frame.specs.Address.{sign, breaks, callsignWrong, shiftedSign, startWrong, nextWrong, ssidWrong, firstWrong, addressOf, addressOctets};
 ghost use Rattle.frame.specs.Asked.{Fits};
 use super::Address;
 use super::Callsign;
@@ -44,19 +44,6 @@ pub(crate) fn callsign_wrong(c: Callsign) -> bool
         | breaks(c.4, c.5)
 }
 
-// Whether all six characters are spaces.
-fn blank(s: &[u8]) -> bool
-    requires { ⌜ 7 ≤ length (now s) ⌝ }
-    ensures { λ r. ⌜ r ≡ blank (now (s .entry)) ⌝ }
-{
-    (s[0] == BLANK)
-        & (s[1] == BLANK)
-        & (s[2] == BLANK)
-        & (s[3] == BLANK)
-        & (s[4] == BLANK)
-        & (s[5] == BLANK)
-}
-
 // Whether x is a letter or digit, shifted left one bit.
 fn shifted_sign(x: u8) -> bool
     ensures { λ r. ⌜ r ≡ shiftedSign x ⌝ }
@@ -64,15 +51,11 @@ fn shifted_sign(x: u8) -> bool
     (x % 2 == 0) & sign(x / 2)
 }
 
-// Whether the first octet is wrong.
-fn start_wrong(s: &[u8]) -> bool
-    requires { ⌜ 7 ≤ length (now s) ⌝ }
-    ensures { λ r. ⌜ r ≡ startWrong (now (s .entry)) ⌝ }
+// Whether the first octet x is neither a letter or digit nor a space.
+fn start_wrong(x: u8) -> bool
+    ensures { λ r. ⌜ r ≡ startWrong x ⌝ }
 {
-    if s[0] == BLANK {
-        return blank(s);
-    }
-    !shifted_sign(s[0])
+    (x != BLANK) & !shifted_sign(x)
 }
 
 // Whether a later character's octet x is wrong behind the octet before.
@@ -97,7 +80,7 @@ pub(crate) fn first_wrong(s: &[u8], last: u8) -> u8
     requires { ⌜ 7 ≤ length (now s) ⌝ }
     ensures { λ r. ⌜ r ≡ firstWrong (now (s .entry)) last ⌝ }
 {
-    if start_wrong(s) {
+    if start_wrong(s[0]) {
         return 0;
     }
     let mut i = 0;
@@ -108,26 +91,21 @@ pub(crate) fn first_wrong(s: &[u8], last: u8) -> u8
         }
         i = next;
     }
+    if s[0] == BLANK {
+        return 0;
+    }
     if ssid_wrong(s[6], last) {
         return 6;
     }
     NONE
 }
 
-// The six characters, each shifted back.
-fn callsign_of(s: &[u8]) -> Callsign
-    requires { ⌜ 7 ≤ length (now s) ⌝ }
-    ensures { λ r. ⌜ r ≡ callsignOf (now (s .entry)) ⌝ }
-{
-    Callsign(s[0] / 2, s[1] / 2, s[2] / 2, s[3] / 2, s[4] / 2, s[5] / 2)
-}
-
-// The address that stands in seven octets.
+// The address that stands in seven octets, each character shifted back.
 pub(crate) fn address_of(s: &[u8]) -> Address
     requires { ⌜ 7 ≤ length (now s) ⌝ }
     ensures { λ r. ⌜ r ≡ addressOf (now (s .entry)) ⌝ }
 {
-    let callsign = callsign_of(s);
+    let callsign = Callsign(s[0] / 2, s[1] / 2, s[2] / 2, s[3] / 2, s[4] / 2, s[5] / 2);
     Address {
         callsign,
         ssid: s[6] / 2 % 16,

@@ -5,6 +5,7 @@ use mathlib.Core.Path.{_≡_, refl, _∙_}
 use mathlib.Core.List.{List}
 use mathlib.Core.Bool.{true, false}
 use borrow.Author.Needs.{needs}
+use borrow.Author.Tests.{eq-eqb, ne-eqb}
 use Rattle.octets.specs.Numbers.{at}
 use Rattle.octets.proofs.Choices.{picked, passed, through}
 use Rattle.frame.specs.Address.{nextWrong, ssidWrong, wrongBehind, firstWrong}
@@ -24,13 +25,17 @@ module _ (s : List ℕ) (last i : ℕ) where
   unfolding wrongBehind
   further l h = let e : 5 - i ≡ suc (5 - (i + 1)) = omega arith in rw e (passed _ _ _ _ h refl)
 
-  ssid-here : 5 ≤ i → ssidWrong (at s 6) last ≡ true → 6 ≡ left
+  all-blank : 5 ≤ i → at s 0 ≡ 64 → 0 ≡ left
   unfolding wrongBehind
-  ssid-here l h = let e : 5 - i ≡ 0 = omega arith in rw e (picked _ _ _ h)
+  all-blank l b = let e : 5 - i ≡ 0 = omega arith in rw e (picked _ _ _ (eq-eqb _ _ b))
 
-  none : 5 ≤ i → ssidWrong (at s 6) last ≡ false → 7 ≡ left
+  ssid-here : 5 ≤ i → (at s 0 ≡ 64 → ⊥) → ssidWrong (at s 6) last ≡ true → 6 ≡ left
   unfolding wrongBehind
-  none l h = let e : 5 - i ≡ 0 = omega arith in rw e (passed _ _ _ _ h refl)
+  ssid-here l b h = let e : 5 - i ≡ 0 = omega arith in rw e (passed _ _ _ _ (ne-eqb _ _ b) (picked _ _ _ h))
+
+  none : 5 ≤ i → (at s 0 ≡ 64 → ⊥) → ssidWrong (at s 6) last ≡ false → 7 ≡ left
+  unfolding wrongBehind
+  none l b h = let e : 5 - i ≡ 0 = omega arith in rw e (passed _ _ _ _ (ne-eqb _ _ b) (passed _ _ _ _ h refl))
 
 abbrev Inv-loop : tie.InvT-loop
 Inv-loop s last i₀ i = (i ≤ 5) × (left s last i ≡ firstWrong s last)
@@ -60,18 +65,27 @@ loop-again c =
 
 returns-3 : tie.Need-returns-3 Inv-loop μ-loop
 returns-3 c =
-    let end = c .before .before .before in
-    ssid-here _ _ _ (end .loop-test .left) (through (c .before .ssid-wrong .ensures) (c .if3 .taken)) ∙ end .before .loop .inv .1
+    let end = c .before .before in
+    all-blank _ _ _ (end .loop-test .left) (c .if3 .taken) ∙ end .before .loop .inv .1
 
 returns-4 : tie.Need-returns-4 Inv-loop μ-loop
 returns-4 c =
-    let end = c .before .before .before in
-    none _ _ _ (end .loop-test .left) (through (c .before .ssid-wrong .ensures) (c .if3 .left)) ∙ end .before .loop .inv .1
+    let filled = c .before .before .before in
+    let end = filled .before .before in
+    ssid-here _ _ _ (end .loop-test .left) (filled .if3 .left) (through (c .before .ssid-wrong .ensures) (c .if4 .taken))
+    ∙ end .before .loop .inv .1
+
+returns-5 : tie.Need-returns-5 Inv-loop μ-loop
+returns-5 c =
+    let filled = c .before .before .before in
+    let end = filled .before .before in
+    none _ _ _ (end .loop-test .left) (filled .if3 .left) (through (c .before .ssid-wrong .ensures) (c .if4 .left))
+    ∙ end .before .loop .inv .1
 
 pub first-wrong-spec : {M : Type 1} → statement M
 first-wrong-spec =
     tie.close
     (tie.spec
-    Inv-loop μ-loop (λ c κs. search needs) returns loop-holds (λ c. search needs) (λ c. search needs) (λ c. search needs)
+    Inv-loop μ-loop (λ c. search needs) (λ c κs. search needs) returns loop-holds (λ c. search needs) (λ c. search needs) (λ c. search needs)
     (λ c κs. search needs) (λ c. search needs) returns-2 (λ c. search needs) loop-again
-    (λ c. search needs) (λ c κs. search needs) returns-3 returns-4)
+    (λ c. search needs) returns-3 (λ c. search needs) (λ c κs. search needs) returns-4 returns-5)
