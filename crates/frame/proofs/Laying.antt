@@ -8,13 +8,13 @@ use mathlib.Core.Logic.{⊎-elim}
 use borrow.Author.Tests.{leb-true, eqb-true, not-false}
 use lib.ListN.{length, take, length-append}
 use lib.Seq.{take-at}
-use lib.Dec.{leb}
+use lib.Dec.{leb, eqb}
 use Rattle.octets.specs.Parts.{put, written}
 use Rattle.octets.proofs.Placing.{put-first, after}
-use Rattle.octets.proofs.Tests.{facts, or-left, and-true-right, or-true, and-false}
+use Rattle.octets.proofs.Tests.{facts, or-right, and-true-right, or-true, and-false}
 use Rattle.crc.specs.Check.{frameCheck, octetsOf}
 use Rattle.crc.specs.Check.Order.{lowFirst}
-use Rattle.frame.specs.Address.{sign, space, strange, breaks, callsignWrong, addressOctets}
+use Rattle.frame.specs.Address.{sign, space, breaks, callsignWrong, addressOctets}
 use Rattle.frame.specs.Asked.{Fits, Room}
 use Rattle.frame.specs.Frame.{flagOf, pointerWrong}
 use Rattle.frame.specs.Writer.{fieldsWrong, headOf, front, statusOctet, body, sealed, frameOctets}
@@ -30,8 +30,8 @@ sign-low x h =
 
 break-low : (before x : ℕ) → breaks before x ≡ false → x ≤ 90
 break-low before x h =
-    ⊎-elim (λ p. sign-low x (not-false _ p)) (λ p. omega (arith, eqb-true x space (not-false _ p)))
-    (and-false (not (sign x)) _ (or-left (strange x) _ h))
+    ⊎-elim (λ p. omega (arith, eqb-true x space (not-false _ p))) (λ p. sign-low x (not-false _ (or-right (eqb before space) _ p)))
+    (and-false (not (eqb x space)) _ h)
 
 fits : (a : Address) → callsignWrong (a .callsign) ≡ false → a .ssid ≤ 15 → Fits a
 fits a h l = search (facts, sign-low, break-low, h)
@@ -102,24 +102,20 @@ front-steps f out h ea eb ec e₁ e₂ e₃ =
     (after a b out 7 (e₁ ∙ rw ea (put-first a out (omega arith))) (rw eb at e₂) refl (omega arith))
     (rw ec at e₃) refl (omega arith)
 
-pub body-steps : (f : Frame) (t : ℕ) (d m out : List ℕ) {g : ℕ} {o₀ o₁ o₂ o₃ : List ℕ} → length d + 23 + t ≤ length out → length m ≡ t
+pub steps : (f : Frame) (t : ℕ) (d m out : List ℕ) {g : ℕ} {o₀ o₁ o₂ o₃ o₄ : List ℕ} → length d + 23 + t ≤ length out → length m ≡ t
     → g ≡ statusOctet f t → o₀ ≡ written (front f) out → o₁ ≡ put o₀ 20 d → o₂ ≡ put o₁ (length d + 20) (g ∷ [])
-    → o₃ ≡ put o₂ (length d + 20 + 1) m → o₃ ≡ written (body f t d m) out
-body-steps f t d m out {g} h l eg e₀ e₁ e₂ e₃ =
+    → o₃ ≡ put o₂ (length d + 20 + 1) m
+    → o₄ ≡ put o₃ (length d + 20 + 1 + t) (octetsOf lowFirst (frameCheck (take (length d + 20 + 1 + t) o₃)))
+    → o₄ ≡ written (frameOctets f t d m) out
+unfolding frameOctets sealed
+steps f t d m out h l eg e₀ e₁ e₂ e₃ e₄ =
     let s : List ℕ = statusOctet f t ∷ [] in
+    let b : List ℕ = body f t d m in
     let n₂ : length d + 20 ≡ length (front f ++ d) = simp length-append (omega arith) in
     let n₃ : length d + 20 + 1 ≡ length (front f ++ d ++ s) = simp length-append (omega arith) in
+    let n₄ : length d + 20 + 1 + t ≡ length b = simp length-append (omega arith) in
     let f₁ = after (front f) d out 20 e₀ e₁ refl (omega arith) in
     let f₂ = after (front f ++ d) s out _ f₁ (rw eg at e₂) n₂ (omega (arith, n₂)) in
-    after (front f ++ d ++ s) m out _ f₂ e₃ n₃ (omega (arith, n₃))
-
-pub steps : (f : Frame) (t : ℕ) (d m out : List ℕ) {o₁ o₂ : List ℕ} → length d + 23 + t ≤ length out → length m ≡ t
-    → o₁ ≡ written (body f t d m) out
-    → o₂ ≡ put o₁ (length d + 21 + t) (octetsOf lowFirst (frameCheck (take (length d + 21 + t) o₁)))
-    → o₂ ≡ written (frameOctets f t d m) out
-unfolding frameOctets sealed
-steps f t d m out h l e₁ e₂ =
-    let b : List ℕ = body f t d m in
-    let n : length d + 21 + t ≡ length b = simp length-append (omega arith) in
-    let k : take (length d + 21 + t) (written b out) ≡ b = take-at b _ _ (sym n) in
-    after b (octetsOf lowFirst (frameCheck b)) out (length d + 21 + t) e₁ (e₂ ∙ rw e₁ (rw k refl)) n (omega (arith, n))
+    let f₃ = after (front f ++ d ++ s) m out _ f₂ e₃ n₃ (omega (arith, n₃)) in
+    let k : take (length d + 20 + 1 + t) (written b out) ≡ b = take-at b _ _ (sym n₄) in
+    after b (octetsOf lowFirst (frameCheck b)) out _ f₃ (e₄ ∙ rw f₃ (rw k refl)) n₄ (omega (arith, n₄))

@@ -69,8 +69,8 @@ module _ (t : ℕ) (s : List ℕ) (k : Passed t s) where
   front-back : front f ≡ take 20 s
   unfolding f frameOf
   front-back =
-      let a = octets-of (take 7 s) 0 (length-take-le 7 s (omega (arith, k .least))) (k .destination) in
-      let b = octets-of (take 7 (drop 7 s)) 1 (length-take-le 7 (drop 7 s) (simp length-drop (omega (arith, k .least)))) (k .source) in
+      let a = octets-of (take 7 s) 0 (k .destination) (length-take-le 7 s (omega (arith, k .least))) in
+      let b = octets-of (take 7 (drop 7 s)) 1 (k .source) (length-take-le 7 (drop 7 s) (simp length-drop (omega (arith, k .least)))) in
       ap (λ (x : List ℕ). x ++ addressOctets (addressOf (take 7 (drop 7 s))) 1 ++ headOf (frameOf t s)) a
       ∙ ap (λ (x : List ℕ). take 7 s ++ x ++ headOf (frameOf t s)) b
       ∙ ap (λ (x : List ℕ). take 7 s ++ take 7 (drop 7 s) ++ x) six

@@ -1,5 +1,5 @@
 -- Document 01, 'The frame': an address is six characters, each shifted left one bit, low bit 0; then 011, a 4-bit SSID, and a last bit.
-use Prim.Native.Nat.{ℕ, _+_, _*_, _/_, _%_}
+use Prim.Native.Nat.{ℕ, zero, suc, _+_, _*_, _/_, _%_}
 use mathlib.Core.List.{List, [], _∷_}
 use mathlib.Core.Bool.{Bool, not, _&&_, _||_}
 use lib.Dec.{ltb, leb, eqb}
@@ -15,13 +15,9 @@ sign x = (leb 65 x && leb x 90) || (leb 48 x && leb x 57)
 abbrev pub space : ℕ
 space = 32
 
--- Neither a letter or digit nor a space.
-abbrev pub strange : ℕ → Bool
-strange x = not (sign x) && not (eqb x space)
-
--- What may not stand behind a character: a strange one, or a letter or digit behind a space.
+-- What may not stand behind a character: anything but a space, or a letter or digit behind another.
 abbrev pub breaks : ℕ → ℕ → Bool
-breaks before x = strange x || (sign x && eqb before space)
+breaks before x = not (eqb x space) && (eqb before space || not (sign x))
 
 -- Not one to six of A-Z, 0-9, then only spaces.
 abbrev pub callsignWrong : Callsign → Bool
@@ -31,35 +27,31 @@ callsignWrong c =
 
 -- ---- the seven octets
 
-abbrev pub odd : ℕ → Bool
-odd x = not (eqb (x % 2) 0)
+-- A letter or digit, shifted: the low bit is 0.
+abbrev pub shiftedSign : ℕ → Bool
+shiftedSign x = eqb (x % 2) 0 && sign (x / 2)
 
--- All six characters are shifted spaces, 0x40.
-abbrev pub blank : List ℕ → Bool
-blank s = eqb (at s 0) 64 && eqb (at s 1) 64 && eqb (at s 2) 64 && eqb (at s 3) 64 && eqb (at s 4) 64 && eqb (at s 5) 64
+-- The first octet x is wrong if it is neither a letter or digit nor a space (0x40).
+abbrev pub startWrong : ℕ → Bool
+startWrong x = not (eqb x 64) && not (shiftedSign x)
 
--- The first octet is wrong for its low bit, for a strange character, and for an all-blank callsign.
-abbrev pub startWrong : List ℕ → Bool
-startWrong s = odd (at s 0) || strange (at s 0 / 2) || blank s
-
--- A later character's octet is wrong for its low bit, for a strange character, and for a letter or digit behind a space.
+-- A later character's octet x is right if it is a space, or a letter or digit behind another.
 abbrev pub nextWrong : ℕ → ℕ → Bool
-nextWrong before x = odd x || breaks (before / 2) (x / 2)
+nextWrong before x = not (eqb x 64) && (eqb before 64 || not (shiftedSign x))
 
 -- The SSID octet is not 011, four bits, the last bit.
 abbrev pub ssidWrong : ℕ → ℕ → Bool
 ssidWrong x last = not (eqb (x / 32) 3) || not (eqb (x % 2) last)
 
+-- The first wrong octet, where none up to place i is wrong and n characters are left; then the SSID octet; 7 for none.
+-- Behind a first space only spaces are right: with all of them right the callsign is all blank, and its first octet is wrong.
+unfoldable pub wrongBehind : List ℕ → ℕ → ℕ → ℕ → ℕ
+wrongBehind s last i zero = pick (eqb (at s 0) 64) 0 (pick (ssidWrong (at s 6) last) 6 7)
+wrongBehind s last i (suc n) = pick (nextWrong (at s i) (at s (i + 1))) (i + 1) (wrongBehind s last (i + 1) n)
+
 -- The first octet of an address that is wrong, 0 to 6, or 7 for none. The last bit is 0 (destination) or 1 (source).
 unfoldable pub firstWrong : List ℕ → ℕ → ℕ
-firstWrong s last =
-    pick (startWrong s) 0
-    (pick (nextWrong (at s 0) (at s 1)) 1
-    (pick (nextWrong (at s 1) (at s 2)) 2
-    (pick (nextWrong (at s 2) (at s 3)) 3
-    (pick (nextWrong (at s 3) (at s 4)) 4
-    (pick (nextWrong (at s 4) (at s 5)) 5
-    (pick (ssidWrong (at s 6) last) 6 7))))))
+firstWrong s last = pick (startWrong (at s 0)) 0 (wrongBehind s last 0 5)
 
 -- Whether there is one.
 abbrev pub addressWrong : List ℕ → ℕ → Bool

@@ -78,8 +78,9 @@ dataLength t s = length s - 23 - t
 abbrev pub statusOf : ℕ → List ℕ → ℕ
 statusOf t s = at s (length s - 3 - t)
 
-unfoldable pub frameOf : ℕ → List ℕ → Frame
-frameOf t s =
+-- The fields of octets with n octets of data and this status octet.
+abbrev pub fieldsOf : List ℕ → ℕ → ℕ → Frame
+fieldsOf s n status =
     record {
       destination = addressOf (take 7 s);
       source = addressOf (take 7 (drop 7 s));
@@ -87,9 +88,12 @@ frameOf t s =
       master = record { 0 = at s 17 };
       count = record { 0 = at s 18 };
       pointer = at s 19;
-      telecommands = statusOf t s % 4;
-      length = dataLength t s;
+      telecommands = status % 4;
+      length = n;
     }
+
+unfoldable pub frameOf : ℕ → List ℕ → Frame
+frameOf t s = fieldsOf s (dataLength t s) (statusOf t s)
 
 -- The data and the time of a frame's octets; none if the octets have not all of them.
 abbrev pub dataOf : Frame → List ℕ → List ℕ

@@ -2,7 +2,7 @@
 ghost use mathlib.Core.Path.{_≡_};
 ghost use lib.ListN.{length};
 ghost use Prim.Native.Nat.{_≤_};
-ghost use Rattle.frame.specs.Address.{sign, strange, breaks, callsignWrong, blank, startWrong, nextWrong, ssidWrong, firstWrong, callsignOf, addressOf, addressOctets};
+ghost use Rattle.frame.specs.Address.{sign, breaks, callsignWrong, shiftedSign, startWrong, nextWrong, ssidWrong, firstWrong, addressOf, addressOctets};
 ghost use Rattle.frame.specs.Asked.{Fits};
 use super::Address;
 use super::Callsign;
@@ -25,18 +25,11 @@ fn sign(x: u8) -> bool
     ((65 <= x) & (x <= 90)) | ((48 <= x) & (x <= 57))
 }
 
-// Whether x is neither a letter or digit nor a space.
-fn strange(x: u8) -> bool
-    ensures { λ r. ⌜ r ≡ strange x ⌝ }
-{
-    !sign(x) & (x != SPACE)
-}
-
 // Whether x may not stand behind the character before.
 fn breaks(before: u8, x: u8) -> bool
     ensures { λ r. ⌜ r ≡ breaks before x ⌝ }
 {
-    strange(x) | (sign(x) & (before == SPACE))
+    (x != SPACE) & ((before == SPACE) | !sign(x))
 }
 
 // Whether c is not one to six letters and digits, then only spaces.
@@ -51,32 +44,28 @@ pub(crate) fn callsign_wrong(c: Callsign) -> bool
         | breaks(c.4, c.5)
 }
 
-// Whether all six characters are spaces.
-fn blank(s: &[u8]) -> bool
-    requires { ⌜ 7 ≤ length (now s) ⌝ }
-    ensures { λ r. ⌜ r ≡ blank (now (s .entry)) ⌝ }
+// Whether x is a letter or digit, shifted left one bit.
+fn shifted_sign(x: u8) -> bool
+    ensures { λ r. ⌜ r ≡ shiftedSign x ⌝ }
 {
-    (s[0] == BLANK)
-        & (s[1] == BLANK)
-        & (s[2] == BLANK)
-        & (s[3] == BLANK)
-        & (s[4] == BLANK)
-        & (s[5] == BLANK)
+    (x % 2 == 0) & sign(x / 2)
 }
 
-// Whether the first octet is wrong.
-fn start_wrong(s: &[u8]) -> bool
-    requires { ⌜ 7 ≤ length (now s) ⌝ }
-    ensures { λ r. ⌜ r ≡ startWrong (now (s .entry)) ⌝ }
+// Whether the first octet x is neither a letter or digit nor a space.
+fn start_wrong(x: u8) -> bool
+    ensures { λ r. ⌜ r ≡ startWrong x ⌝ }
 {
-    (s[0] % 2 != 0) | strange(s[0] / 2) | blank(s)
+    (x != BLANK) & !shifted_sign(x)
 }
 
 // Whether a later character's octet x is wrong behind the octet before.
 fn next_wrong(before: u8, x: u8) -> bool
     ensures { λ r. ⌜ r ≡ nextWrong before x ⌝ }
 {
-    (x % 2 != 0) | breaks(before / 2, x / 2)
+    if x == BLANK {
+        return false;
+    }
+    (before == BLANK) | !shifted_sign(x)
 }
 
 // Whether the SSID octet x is wrong, where the last bit is to be last.
@@ -91,23 +80,19 @@ pub(crate) fn first_wrong(s: &[u8], last: u8) -> u8
     requires { ⌜ 7 ≤ length (now s) ⌝ }
     ensures { λ r. ⌜ r ≡ firstWrong (now (s .entry)) last ⌝ }
 {
-    if start_wrong(s) {
+    if start_wrong(s[0]) {
         return 0;
     }
-    if next_wrong(s[0], s[1]) {
-        return 1;
+    let mut i = 0;
+    while i < 5 {
+        let next = i + 1;
+        if next_wrong(s[i], s[next]) {
+            return next as u8;
+        }
+        i = next;
     }
-    if next_wrong(s[1], s[2]) {
-        return 2;
-    }
-    if next_wrong(s[2], s[3]) {
-        return 3;
-    }
-    if next_wrong(s[3], s[4]) {
-        return 4;
-    }
-    if next_wrong(s[4], s[5]) {
-        return 5;
+    if s[0] == BLANK {
+        return 0;
     }
     if ssid_wrong(s[6], last) {
         return 6;
@@ -115,20 +100,12 @@ pub(crate) fn first_wrong(s: &[u8], last: u8) -> u8
     NONE
 }
 
-// The six characters, each shifted back.
-fn callsign_of(s: &[u8]) -> Callsign
-    requires { ⌜ 7 ≤ length (now s) ⌝ }
-    ensures { λ r. ⌜ r ≡ callsignOf (now (s .entry)) ⌝ }
-{
-    Callsign(s[0] / 2, s[1] / 2, s[2] / 2, s[3] / 2, s[4] / 2, s[5] / 2)
-}
-
-// The address that stands in seven octets.
+// The address that stands in seven octets, each character shifted back.
 pub(crate) fn address_of(s: &[u8]) -> Address
     requires { ⌜ 7 ≤ length (now s) ⌝ }
     ensures { λ r. ⌜ r ≡ addressOf (now (s .entry)) ⌝ }
 {
-    let callsign = callsign_of(s);
+    let callsign = Callsign(s[0] / 2, s[1] / 2, s[2] / 2, s[3] / 2, s[4] / 2, s[5] / 2);
     Address {
         callsign,
         ssid: s[6] / 2 % 16,

@@ -3,7 +3,7 @@ ghost use mathlib.Core.Path.{_≡_};
 ghost use lib.ListN.{length};
 ghost use Prim.Native.Nat.{_≤_};
 ghost use Rattle.frame.specs.Asked.{Whole};
-ghost use Rattle.frame.specs.Frame.{told, flagOf, lengthWrong, checkWrong, headWrong, versionWrong, statusWrong, pointerWrong, frameOf, readWhole};
+ghost use Rattle.frame.specs.Frame.{told, flagOf, lengthWrong, checkWrong, headWrong, versionWrong, statusWrong, pointerWrong, fieldsOf, readWhole};
 use super::Frame;
 use super::FrameRead;
 use super::addresses;
@@ -99,10 +99,10 @@ pub(crate) fn pointer_wrong(pointer: u8, n: usize) -> bool
     !((octets::wide(pointer) < n) | (pointer == 255) | ((pointer == 254) & (n != 0)))
 }
 
-// The fields that stand in a frame's octets.
-fn frame_of(t: usize, s: &[u8]) -> Frame
-    requires { ⌜ Whole t (now s) ⌝ }
-    ensures { λ r. ⌜ r ≡ frameOf t (now (s .entry)) ⌝ }
+// The fields that stand in a frame's octets, of which n are data and one is the status octet.
+fn frame_of(s: &[u8], n: usize, status: u8) -> Frame
+    requires { ⌜ 20 ≤ length (now s) ⌝ }
+    ensures { λ r. ⌜ r ≡ fieldsOf (now (s .entry)) n status ⌝ }
 {
     let destination = addresses::address_of(&s[0..SOURCE_AT]);
     let source = addresses::address_of(&s[SOURCE_AT..CONTROL_AT]);
@@ -113,8 +113,8 @@ fn frame_of(t: usize, s: &[u8]) -> Frame
         master: MasterCount(s[MASTER_AT]),
         count: ChannelCount(s[COUNT_AT]),
         pointer: s[POINTER_AT],
-        telecommands: s[s.len() - AROUND_TIME - t] % 4,
-        length: s.len() - Frame::LEAST - t,
+        telecommands: status % 4,
+        length: n,
     }
 }
 
@@ -132,11 +132,13 @@ pub(crate) fn read_whole(t: usize, s: &[u8]) -> FrameRead
     if version_wrong(s[CHANNEL_AT]) {
         return FrameRead::Refused(answer::FRAME_VERSION);
     }
-    if status_wrong(t, s[s.len() - AROUND_TIME - t]) {
+    let status = s[s.len() - AROUND_TIME - t];
+    if status_wrong(t, status) {
         return FrameRead::Refused(answer::FRAME_STATUS);
     }
-    if pointer_wrong(s[POINTER_AT], s.len() - Frame::LEAST - t) {
+    let n = s.len() - Frame::LEAST - t;
+    if pointer_wrong(s[POINTER_AT], n) {
         return FrameRead::Refused(answer::FRAME_POINTER);
     }
-    FrameRead::Frame(frame_of(t, s))
+    FrameRead::Frame(frame_of(s, n, status))
 }

@@ -6,7 +6,7 @@ ghost use Rattle.octets.specs.Parts.{put, written};
 ghost use Rattle.crc.specs.Check.{frameCheck, octetsOf};
 ghost use Rattle.crc.specs.Check.Order.{lowFirst};
 ghost use Rattle.frame.specs.Asked.{FrontRoom, Room};
-ghost use Rattle.frame.specs.Writer.{fieldsWrong, headOf, front, statusOctet, body, frameOctets};
+ghost use Rattle.frame.specs.Writer.{fieldsWrong, headOf, front, statusOctet, frameOctets};
 use super::Frame;
 use super::addresses;
 use super::reading;
@@ -70,20 +70,6 @@ fn lay_front(f: Frame, out: &mut [u8])
     octets::put(out, reading::CONTROL_AT, &rest);
 }
 
-// The frame's octets before the check, at the start of out; beyond them out stays.
-fn lay_body(f: Frame, t: usize, data: &[u8], time: &[u8], out: &mut [u8])
-    requires { ⌜ Room f t (now «data») (now time) (now out) ⌝ }
-    ensures { λ r. ⌜ now (out .exit) ≡ written (body f t (now («data» .entry)) (now (time .entry))) (now (out .entry)) ⌝ }
-{
-    let status_at = data.len() + reading::DATA_AT;
-    let time_at = status_at + 1;
-    let state = [status(f, t)];
-    lay_front(f, out);
-    octets::put(out, reading::DATA_AT, data);
-    octets::put(out, status_at, &state);
-    octets::put(out, time_at, time);
-}
-
 // The check of the first n octets of out, put behind them; all else stays.
 fn seal(out: &mut [u8], n: usize)
     requires { ⌜ n ≤ length (now out) ⌝ }
@@ -99,7 +85,13 @@ pub(crate) fn lay(f: Frame, t: usize, data: &[u8], time: &[u8], out: &mut [u8])
     requires { ⌜ Room f t (now «data») (now time) (now out) ⌝ }
     ensures { λ r. ⌜ now (out .exit) ≡ written (frameOctets f t (now («data» .entry)) (now (time .entry))) (now (out .entry)) ⌝ }
 {
-    let n = data.len() + reading::BEFORE_TIME + t;
-    lay_body(f, t, data, time, out);
-    seal(out, n);
+    let status_at = data.len() + reading::DATA_AT;
+    let time_at = status_at + 1;
+    let check_at = time_at + t;
+    let state = [status(f, t)];
+    lay_front(f, out);
+    octets::put(out, reading::DATA_AT, data);
+    octets::put(out, status_at, &state);
+    octets::put(out, time_at, time);
+    seal(out, check_at);
 }

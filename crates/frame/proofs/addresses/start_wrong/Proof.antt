@@ -3,10 +3,9 @@ use Rattle.frame.proofs.addresses.start_wrong.Statement.{statement}
 use Rattle.frame.proofs.addresses.start_wrong.Tie as tie
 
 returns : tie.Need-returns
-returns c = simp (c .blank .ensures, c .before .strange .ensures)
+returns c = simp (c .shifted-sign .ensures)
 
 pub start-wrong-spec : {M : Type 1} → statement M
-start-wrong-spec =
-    tie.close
+start-wrong-spec = tie.close
     (tie.spec
-    (λ c. search needs) (λ c. search needs) (λ c κs. search needs) (λ c κs. search needs) returns)
+    (λ c κs. search needs) returns)

@@ -1,69 +1,55 @@
 -- `reading::read_whole` meets its contract: each return passes the refusals before it.
 use borrow.Author.Needs.{needs}
-use Rattle.octets.proofs.Choices.{picked, passed, through}
-use Rattle.frame.specs.Frame.{readWhole}
-use Rattle.frame.proofs.Reader.{accepting}
+use Rattle.octets.proofs.Choices.{through}
+use Rattle.frame.proofs.Reader.{check-refused, head-refused, version-refused, status-refused, pointer-refused, accepting}
 use Rattle.frame.proofs.reading.read_whole.Statement.{statement}
 use Rattle.frame.proofs.reading.read_whole.Tie as tie
 
 returns : tie.Need-returns
-unfolding readWhole
-returns c = picked _ _ _ (through (c .before .check-wrong .ensures) (c .if1 .taken))
+returns c = check-refused _ _ (through (c .before .check-wrong .ensures) (c .if1 .taken))
 
 returns-2 : tie.Need-returns-2
-unfolding readWhole
 returns-2 c =
     let check = c .before .before in
-    passed _ _ _ _ (through (check .before .check-wrong .ensures) (check .if1 .left))
-    (picked _ _ _ (through (c .before .head-wrong .ensures) (c .if2 .taken)))
+    head-refused _ _ (through (check .before .check-wrong .ensures) (check .if1 .left)) (through (c .before .head-wrong .ensures) (c .if2 .taken))
 
 returns-3 : tie.Need-returns-3
-unfolding readWhole
 returns-3 c =
     let head = c .before .before .before in
     let check = head .before .before in
-    passed _ _ _ _ (through (check .before .check-wrong .ensures) (check .if1 .left))
-    (passed _ _ _ _ (through (head .before .head-wrong .ensures) (head .if2 .left))
-    (picked _ _ _ (through (c .before .version-wrong .ensures) (c .if3 .taken))))
+    version-refused _ _ (through (check .before .check-wrong .ensures) (check .if1 .left))
+    (through (head .before .head-wrong .ensures) (head .if2 .left)) (through (c .before .version-wrong .ensures) (c .if3 .taken))
 
 returns-4 : tie.Need-returns-4
-unfolding readWhole
 returns-4 c =
     let version = c .before .before .before in
     let head = version .before .before .before in
     let check = head .before .before in
-    passed _ _ _ _ (through (check .before .check-wrong .ensures) (check .if1 .left))
-    (passed _ _ _ _ (through (head .before .head-wrong .ensures) (head .if2 .left))
-    (passed _ _ _ _ (through (version .before .version-wrong .ensures) (version .if3 .left))
-    (picked _ _ _ (through (c .before .status-wrong .ensures) (c .if4 .taken)))))
+    status-refused _ _ (through (check .before .check-wrong .ensures) (check .if1 .left))
+    (through (head .before .head-wrong .ensures) (head .if2 .left)) (through (version .before .version-wrong .ensures) (version .if3 .left))
+    (through (c .before .status-wrong .ensures) (c .if4 .taken))
 
 returns-5 : tie.Need-returns-5
-unfolding readWhole
 returns-5 c =
     let status = c .before .before .before in
     let version = status .before .before .before in
     let head = version .before .before .before in
     let check = head .before .before in
-    passed _ _ _ _ (through (check .before .check-wrong .ensures) (check .if1 .left))
-    (passed _ _ _ _ (through (head .before .head-wrong .ensures) (head .if2 .left))
-    (passed _ _ _ _ (through (version .before .version-wrong .ensures) (version .if3 .left))
-    (passed _ _ _ _ (through (status .before .status-wrong .ensures) (status .if4 .left))
-    (picked _ _ _ (through (c .before .pointer-wrong .ensures) (c .if5 .taken))))))
+    pointer-refused _ _ (through (check .before .check-wrong .ensures) (check .if1 .left))
+    (through (head .before .head-wrong .ensures) (head .if2 .left)) (through (version .before .version-wrong .ensures) (version .if3 .left))
+    (through (status .before .status-wrong .ensures) (status .if4 .left)) (through (c .before .pointer-wrong .ensures) (c .if5 .taken))
 
 returns-6 : tie.Need-returns-6
-unfolding readWhole
 returns-6 c =
     let pointer = c .before in
     let status = pointer .before .before .before in
     let version = status .before .before .before in
     let head = version .before .before .before in
     let check = head .before .before in
-    passed _ _ _ _ (through (check .before .check-wrong .ensures) (check .if1 .left))
-    (passed _ _ _ _ (through (head .before .head-wrong .ensures) (head .if2 .left))
-    (passed _ _ _ _ (through (version .before .version-wrong .ensures) (version .if3 .left))
-    (passed _ _ _ _ (through (status .before .status-wrong .ensures) (status .if4 .left))
-    (passed _ _ _ _ (through (pointer .before .pointer-wrong .ensures) (pointer .if5 .left))
-    (accepting (c .frame-of .ensures))))))
+    accepting _ _ (through (check .before .check-wrong .ensures) (check .if1 .left))
+    (through (head .before .head-wrong .ensures) (head .if2 .left)) (through (version .before .version-wrong .ensures) (version .if3 .left))
+    (through (status .before .status-wrong .ensures) (status .if4 .left)) (through (pointer .before .pointer-wrong .ensures) (pointer .if5 .left))
+    (c .frame-of .ensures)
 
 pub read-whole-spec : {M : Type 1} → statement M
 read-whole-spec =
