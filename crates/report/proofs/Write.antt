@@ -21,7 +21,9 @@ use Rattle.packet.specs.Write.{fieldsWrong, packetOctets}
 use Rattle.packet.proofs.Laws.{in-range}
 use Rattle.packet.specs.declared.Packet.{Packet}
 use Rattle.report.specs.Table.{success, failure, housekeeping, available, imageLine}
-use Rattle.report.specs.Write.{joined, sourceData, contentWrong, together, Short, WroteSource, WroteReport}
+use Rattle.report.specs.Write.{joined, sourceData, contentWrong, WroteReport}
+use Rattle.report.specs.Asked.{Short}
+use Rattle.report.specs.Promised.{together, WroteSource}
 use Rattle.report.specs.declared.Success.{Success}
 use Rattle.report.specs.declared.Failure.{Failure}
 use Rattle.report.specs.declared.Housekeeping.{Housekeeping}

@@ -1,6 +1,5 @@
 -- Document 01, 'Reports': the fixed table of pairs and their source data lengths.
 use Prim.Native.Nat.{ℕ}
-use mathlib.Core.Path.{_≡_}
 use mathlib.Core.List.{List, [], _∷_}
 use mathlib.Core.Bool.{Bool, _&&_, _||_}
 use lib.Dec.{eqb}
@@ -47,7 +46,3 @@ available p = is p 128 3
 
 unfoldable pub imageLine : Packet → Bool
 imageLine p = is p 128 7
-
--- What a test of service type and subtype alone tells of every packet that has them.
-abbrev pub Tells : (Packet → Bool) → ℕ → ℕ → Bool → Type 0
-Tells test service subtype r = (p : Packet) → p .service ≡ service → p .subtype ≡ subtype → r ≡ test p

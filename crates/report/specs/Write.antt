@@ -1,5 +1,5 @@
 -- Document 01, 'Reports': what writing one gives, for all five in one definition.
-use Prim.Native.Nat.{ℕ, _≤_}
+use Prim.Native.Nat.{ℕ}
 use mathlib.Core.List.{List, [], _∷_, _++_}
 use mathlib.Core.Bool.{Bool, true, false, not, _||_}
 use lib.ListN.{length}
@@ -87,17 +87,3 @@ abbrev pub WroteReport : Packet → Content → List (List ℕ) → List ℕ →
 WroteReport p c strings out r out′ =
     let report : Report = record { packet = p; content = c } in
     Wrote (reportWrong report strings) (reportOctets report strings) out r out′
-
--- What the core is lent: four strings, of which it takes these lengths.
-abbrev pub together : List ℕ → List ℕ → List ℕ → List ℕ → List ℕ
-together a b c d = joined (a ∷ b ∷ c ∷ d ∷ [])
-
-pub record Short (a b c d : List ℕ) : Type 0 where
-  pub first : length a ≤ 4
-  pub second : length b ≤ 4
-  pub third : length c ≤ 235
-  pub fourth : length d ≤ 235
-
--- The contract of the core: whether the content is wrong, the packet's fields, the source data, the output before and after.
-abbrev pub WroteSource : Bool → Packet → List ℕ → List ℕ → Written → List ℕ → Type 0
-WroteSource wrong p source out r out′ = Wrote (wrong || fieldsWrong p (length source)) (packetOctets p source) out r out′

@@ -1,6 +1,7 @@
 // The fixed table of pairs, searched, and which report a pair is of. Private to the crate.
 ghost use mathlib.Core.Path.{_≡_};
-ghost use Rattle.report.specs.Table.{findPair, Tells, success, failure, housekeeping, available, imageLine};
+ghost use Rattle.report.specs.Table.{findPair, success, failure, housekeeping, available, imageLine};
+ghost use Rattle.report.specs.Promised.{Tells};
 
 // A pair of service type and subtype, with the least and the greatest length of its source data.
 pub struct Pair {
