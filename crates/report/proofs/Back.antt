@@ -94,7 +94,7 @@ reads-back r strings right =
     record {
       fields =
           sym
-          (report-read p s refl (m .known) refl (m .length) refl (m .below) (m .content)
+          (report-read p s refl (m .known) (m .length) (m .below) (m .content)
           ∙ packet-accepted s {x = packet-read.Packet p} (sym (packet-reads-back p (sourceData c strings) f .fields)) refl);
       parts =
           strings-cut c s

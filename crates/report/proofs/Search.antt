@@ -1,9 +1,9 @@
--- Laws of the table's search.
+-- Laws of the table's search and tests.
 use Prim.Native.Nat.{ℕ, suc, _<_}
 use native.Mathlib.Omega.{arith}
 use mathlib.Core.Path.{_≡_, refl, sym, ap, subst, _∙_}
 use mathlib.Core.List.{List, [], _∷_}
-use mathlib.Core.Bool.{Bool, true, false, _&&_}
+use mathlib.Core.Bool.{Bool, true, false, _&&_, _||_}
 use lib.Dec.{eqb}
 use lib.ListN.{length, getD, drop}
 use lib.Seq.{drop-cons}
@@ -25,6 +25,11 @@ module _ (service subtype : ℕ) (l : List Pair) (i : ℕ) (d : Pair) (h : i < l
   pub found-later : (eqb (getD l i d .service) service && eqb (getD l i d .subtype) subtype) ≡ false
       → first service subtype (drop (suc i) l) ≡ first service subtype (drop i l)
   found-later t = passed _ _ _ _ t refl ∙ sym (ap (first service subtype) (drop-cons l i d h))
+
+-- one service type and three subtypes, as the code tests them
+pub of-one : (s a b c : Bool) → (s && (a || b || c)) ≡ ((s && a) || (s && b) || (s && c))
+of-one true a b c = refl
+of-one false a b c = refl
 
 -- every pair of the list has Q
 abbrev pub Each : (Pair → Type 0) → List Pair → Type 0

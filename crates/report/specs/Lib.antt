@@ -2,3 +2,5 @@ pub mod Table
 pub mod Report
 pub mod Write
 pub mod Back
+pub mod Asked
+pub mod Promised

@@ -1,6 +1,5 @@
 -- Document 01, 'Reports': what writing one gives, for all five in one definition.
 use Prim.Native.Nat.{ℕ}
-use mathlib.Core.Path.{_≡_}
 use mathlib.Core.List.{List, [], _∷_, _++_}
 use mathlib.Core.Bool.{Bool, true, false, not, _||_}
 use lib.ListN.{length}
@@ -65,10 +64,6 @@ lengthsWrong [] [] = false
 lengthsWrong [] (x ∷ xs) = true
 lengthsWrong (n ∷ ns) [] = true
 lengthsWrong (n ∷ ns) (x ∷ xs) = not (eqb (length x) n) || lengthsWrong ns xs
-
--- Source data as it should be, where the lent strings are as long as they should be.
-abbrev pub Laid : Content → List (List ℕ) → List ℕ → Type 0
-Laid c strings source = lengthsWrong (lengthsOf c) strings ≡ false → source ≡ sourceData c strings
 
 -- The line is above 119.
 abbrev pub lineWrong : Content → Bool

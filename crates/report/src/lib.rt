@@ -2,13 +2,11 @@
 ghost use mathlib.Core.Path.{_≡_};
 ghost use Prim.Native.Nat.{_≤_};
 ghost use Rattle.octets.specs.Numbers.{at, word};
-ghost use Rattle.report.specs.Report.{successOf, failureOf, housekeepingOf, availableOf, lineOf, contentOf};
-ghost use Rattle.report.specs.Report.{told, lengthWrong, lineAbove, readContent, readReport};
+ghost use Rattle.report.specs.Report.{told, contentOf, readContent, readReport};
 ghost use Rattle.report.specs.Report.{restOf, firstBlock, secondBlock, pixelsOf};
 use packet::Packet;
 use packet::PacketRead;
 use table::Found;
-use table::Pair;
 
 mod table;
 mod writers;
@@ -82,90 +80,43 @@ fn word(s: &[u8], high: usize, low: usize) -> u16
     octets::word(octet(s, high), octet(s, low))
 }
 
-// The content of a verification success: packet ID and sequence control.
-fn success_of(s: &[u8]) -> Content
-    ensures { λ r. ⌜ r ≡ Content.Success (successOf (now (s .entry))) ⌝ }
-{
-    Content::Success(Success {
-        id: word(s, 14, 15),
-        control: word(s, 16, 17),
-    })
-}
-
-// The content of a verification failure: packet ID, sequence control and code.
-fn failure_of(s: &[u8]) -> Content
-    ensures { λ r. ⌜ r ≡ Content.Failure (failureOf (now (s .entry))) ⌝ }
-{
-    Content::Failure(Failure {
-        id: word(s, 14, 15),
-        control: word(s, 16, 17),
-        code: word(s, 18, 19),
-    })
-}
-
-// The content of a housekeeping report: SID and how many octets the rest has.
-fn housekeeping_of(p: Packet, s: &[u8]) -> Content
-    requires { ⌜ 1 ≤ p .length ⌝ }
-    ensures { λ r. ⌜ r ≡ Content.Housekeeping (housekeepingOf p (now (s .entry))) ⌝ }
-{
-    Content::Housekeeping(Housekeeping {
-        sid: octet(s, 14),
-        length: p.length - 1,
-    })
-}
-
-// The content of an available image: image number and ticks.
-fn available_of(s: &[u8]) -> Content
-    ensures { λ r. ⌜ r ≡ Content.Available (availableOf (now (s .entry))) ⌝ }
-{
-    Content::Available(Available {
-        image: word(s, 14, 15),
-        ticks: octets::four(octet(s, 16), octet(s, 17), octet(s, 18), octet(s, 19)),
-    })
-}
-
-// The content of an image line: image number and line.
-fn line_of(s: &[u8]) -> Content
-    ensures { λ r. ⌜ r ≡ Content.Line (lineOf (now (s .entry))) ⌝ }
-{
-    Content::Line(Line {
-        image: word(s, 14, 15),
-        line: octet(s, 16),
-    })
-}
-
 // The content of the packet s of a known pair, whose fields are p.
 fn content_of(p: Packet, s: &[u8]) -> Content
     requires { ⌜ 1 ≤ p .length ⌝ }
     ensures { λ r. ⌜ r ≡ contentOf p (now (s .entry)) ⌝ }
 {
-    if table::success(p) {
-        return success_of(s);
+    let first = word(s, 14, 15);
+    let second = word(s, 16, 17);
+    let third = word(s, 18, 19);
+    if table::success(p.service, p.subtype) {
+        return Content::Success(Success {
+            id: first,
+            control: second,
+        });
     }
-    if table::failure(p) {
-        return failure_of(s);
+    if table::failure(p.service, p.subtype) {
+        return Content::Failure(Failure {
+            id: first,
+            control: second,
+            code: third,
+        });
     }
-    if table::housekeeping(p) {
-        return housekeeping_of(p, s);
+    if table::housekeeping(p.service, p.subtype) {
+        return Content::Housekeeping(Housekeeping {
+            sid: octet(s, 14),
+            length: p.length - 1,
+        });
     }
-    if table::available(p) {
-        return available_of(s);
+    if table::available(p.service, p.subtype) {
+        return Content::Available(Available {
+            image: first,
+            ticks: second as u32 * 65536 + third as u32,
+        });
     }
-    line_of(s)
-}
-
-// Refusal 31: the source data is shorter or longer than the pair's may be.
-fn length_wrong(p: Packet, pair: Pair) -> bool
-    ensures { λ r. ⌜ r ≡ lengthWrong p pair ⌝ }
-{
-    (p.length < pair.least) | (pair.greatest < p.length)
-}
-
-// Refusal 32: the line is above 119.
-fn line_above(p: Packet, s: &[u8]) -> bool
-    ensures { λ r. ⌜ r ≡ lineAbove p (now (s .entry)) ⌝ }
-{
-    table::image_line(p) & (Line::LAST < octet(s, 16))
+    Content::Line(Line {
+        image: first,
+        line: octet(s, 16),
+    })
 }
 
 // The report of the packet s, whose fields are p, or refusal 30, 31 or 32.
@@ -175,10 +126,10 @@ fn read_content(p: Packet, s: &[u8]) -> ReportRead
     let Found::Pair(pair) = table::find(p.service, p.subtype) else {
         return ReportRead::Refused(answer::PAIR);
     };
-    if length_wrong(p, pair) {
+    if (p.length < pair.least) | (pair.greatest < p.length) {
         return ReportRead::Refused(answer::SOURCE_LENGTH);
     }
-    if line_above(p, s) {
+    if table::image_line(p.service, p.subtype) & (Line::LAST < octet(s, 16)) {
         return ReportRead::Refused(answer::LINE);
     }
     let content = content_of(p, s);

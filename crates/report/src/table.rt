@@ -1,7 +1,7 @@
 // The fixed table of pairs, searched, and which report a pair is of. Private to the crate.
 ghost use mathlib.Core.Path.{_≡_};
-ghost use Rattle.report.specs.Table.{is, findPair, success, failure, housekeeping, available, imageLine};
-use packet::Packet;
+ghost use Rattle.report.specs.Table.{findPair, success, failure, housekeeping, available, imageLine};
+ghost use Rattle.report.specs.Promised.{Tells};
 
 // A pair of service type and subtype, with the least and the greatest length of its source data.
 pub struct Pair {
@@ -90,44 +90,37 @@ pub fn find(service: u8, subtype: u8) -> Found
     Found::Unknown
 }
 
-// Whether the packet is of this pair.
-pub fn is(p: Packet, service: u8, subtype: u8) -> bool
-    ensures { λ r. ⌜ r ≡ is p service subtype ⌝ }
-{
-    (p.service == service) & (p.subtype == subtype)
-}
-
 // Verification success: (1,1), (1,3), (1,7).
-pub fn success(p: Packet) -> bool
-    ensures { λ r. ⌜ r ≡ success p ⌝ }
+pub fn success(service: u8, subtype: u8) -> bool
+    ensures { λ r. ⌜ Tells success service subtype r ⌝ }
 {
-    is(p, 1, 1) | is(p, 1, 3) | is(p, 1, 7)
+    (service == 1) & ((subtype == 1) | (subtype == 3) | (subtype == 7))
 }
 
 // Verification failure: (1,2), (1,4), (1,8).
-pub fn failure(p: Packet) -> bool
-    ensures { λ r. ⌜ r ≡ failure p ⌝ }
+pub fn failure(service: u8, subtype: u8) -> bool
+    ensures { λ r. ⌜ Tells failure service subtype r ⌝ }
 {
-    is(p, 1, 2) | is(p, 1, 4) | is(p, 1, 8)
+    (service == 1) & ((subtype == 2) | (subtype == 4) | (subtype == 8))
 }
 
 // Housekeeping: (3,25).
-pub fn housekeeping(p: Packet) -> bool
-    ensures { λ r. ⌜ r ≡ housekeeping p ⌝ }
+pub fn housekeeping(service: u8, subtype: u8) -> bool
+    ensures { λ r. ⌜ Tells housekeeping service subtype r ⌝ }
 {
-    is(p, 3, 25)
+    (service == 3) & (subtype == 25)
 }
 
 // Available image: (128,3).
-pub fn available(p: Packet) -> bool
-    ensures { λ r. ⌜ r ≡ available p ⌝ }
+pub fn available(service: u8, subtype: u8) -> bool
+    ensures { λ r. ⌜ Tells available service subtype r ⌝ }
 {
-    is(p, 128, 3)
+    (service == 128) & (subtype == 3)
 }
 
 // Image line: (128,7).
-pub fn image_line(p: Packet) -> bool
-    ensures { λ r. ⌜ r ≡ imageLine p ⌝ }
+pub fn image_line(service: u8, subtype: u8) -> bool
+    ensures { λ r. ⌜ Tells imageLine service subtype r ⌝ }
 {
-    is(p, 128, 7)
+    (service == 128) & (subtype == 7)
 }

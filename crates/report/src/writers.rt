@@ -3,13 +3,12 @@
 // Refusal 51: a pair that is unknown or another report's, a length that isn't the lent one, a line above 119, a field of the packet
 // out of range; 50: out too short. Then out stays whole.
 ghost use Prim.Native.Nat.{_+_, _≤_};
-ghost use mathlib.Core.Bool.{_||_};
 ghost use mathlib.Core.Path.{_≡_};
 ghost use mathlib.Core.List.{[], _∷_};
 ghost use lib.ListN.{length, take};
-ghost use Rattle.answer.specs.Writer.{Wrote};
-ghost use Rattle.packet.specs.Write.{fieldsWrong, packetOctets};
-ghost use Rattle.report.specs.Write.{sourceData, contentWrong, Laid, WroteReport};
+ghost use Rattle.report.specs.Write.{WroteReport};
+ghost use Rattle.report.specs.Asked.{Short};
+ghost use Rattle.report.specs.Promised.{together, WroteSource};
 use super::Available;
 use super::Content;
 use super::Failure;
@@ -20,106 +19,41 @@ use super::table;
 use answer::Written;
 use packet::Packet;
 
-// The core: refusal 51 if wrong, else what the packet's writer does with this source data.
-fn write(wrong: bool, packet: Packet, source: &[u8], out: &mut [u8]) -> Written
-    ensures { λ r. ⌜ Wrote (wrong || fieldsWrong packet (length (now (source .entry)))) (packetOctets packet (now (source .entry))) (now (out .entry)) r (now (out .exit)) ⌝ }
+// Four strings one after another, with zeros after them.
+fn lay(a: &[u8], b: &[u8], c: &[u8], d: &[u8]) -> [u8; 478]
+    requires { ⌜ Short (now a) (now b) (now c) (now d) ⌝ }
+    ensures { λ r. ⌜ take (length (now (a .entry)) + length (now (b .entry)) + length (now (c .entry)) + length (now (d .entry))) r ≡ together (now (a .entry)) (now (b .entry)) (now (c .entry)) (now (d .entry)) ⌝ }
 {
-    if wrong {
+    let mut source = [0u8; 478];
+    let after_a = a.len();
+    let after_b = after_a + b.len();
+    let after_c = after_b + c.len();
+    octets::put(&mut source, 0, a);
+    octets::put(&mut source, after_a, b);
+    octets::put(&mut source, after_b, c);
+    octets::put(&mut source, after_c, d);
+    source
+}
+
+// The core: refusal 51 if wrong, else what the packet's writer does with four strings one after another as source data.
+fn write(
+    wrong: bool,
+    packet: Packet,
+    a: &[u8],
+    b: &[u8],
+    c: &[u8],
+    d: &[u8],
+    out: &mut [u8],
+) -> Written
+    requires { ⌜ (length (now a) ≤ 4) × (length (now b) ≤ 4) ⌝ }
+    ensures { λ r. ⌜ WroteSource wrong packet (together (now (a .entry)) (now (b .entry)) (now (c .entry)) (now (d .entry))) (now (out .entry)) r (now (out .exit)) ⌝ }
+{
+    if wrong | (235 < c.len()) | (235 < d.len()) {
         return Written::Refused(answer::FIELD_RANGE);
     }
-    packet.write(source, out)
-}
-
-// Refusal 51 of a verification success, but for the packet's fields: another pair.
-fn success_wrong(p: Packet, c: Success) -> bool
-    ensures { λ r. ⌜ r ≡ contentWrong p (Content.Success c) [] ⌝ }
-{
-    !table::success(p)
-}
-
-// The same of a verification failure: another pair.
-fn failure_wrong(p: Packet, c: Failure) -> bool
-    ensures { λ r. ⌜ r ≡ contentWrong p (Content.Failure c) [] ⌝ }
-{
-    !table::failure(p)
-}
-
-// The same of a housekeeping report: another pair, or a rest of another length.
-fn housekeeping_wrong(p: Packet, c: Housekeeping, rest: &[u8]) -> bool
-    ensures { λ r. ⌜ r ≡ contentWrong p (Content.Housekeeping c) (now (rest .entry) ∷ []) ⌝ }
-{
-    !table::housekeeping(p) | (rest.len() != c.length)
-}
-
-// The same of an available image: another pair, or a block that hasn't 80 octets.
-fn available_wrong(p: Packet, c: Available, first: &[u8], second: &[u8]) -> bool
-    ensures { λ r. ⌜ r ≡ contentWrong p (Content.Available c) (now (first .entry) ∷ now (second .entry) ∷ []) ⌝ }
-{
-    !table::available(p) | ((first.len() != Available::BLOCK) | (second.len() != Available::BLOCK))
-}
-
-// The same of an image line: another pair, not 188 pixels, or a line above 119.
-fn line_wrong(p: Packet, c: Line, pixels: &[u8]) -> bool
-    ensures { λ r. ⌜ r ≡ contentWrong p (Content.Line c) (now (pixels .entry) ∷ []) ⌝ }
-{
-    !table::image_line(p) | (pixels.len() != Line::PIXELS) | (Line::LAST < c.line)
-}
-
-// The source data of a verification success.
-fn success_source(c: Success) -> [u8; 4]
-    ensures { λ r. ⌜ Laid (Content.Success c) [] r ⌝ }
-{
-    let id = octets::word_octets(c.id);
-    let control = octets::word_octets(c.control);
-    [id[0], id[1], control[0], control[1]]
-}
-
-// The source data of a verification failure.
-fn failure_source(c: Failure) -> [u8; 6]
-    ensures { λ r. ⌜ Laid (Content.Failure c) [] r ⌝ }
-{
-    let id = octets::word_octets(c.id);
-    let control = octets::word_octets(c.control);
-    let code = octets::word_octets(c.code);
-    [id[0], id[1], control[0], control[1], code[0], code[1]]
-}
-
-// The source data of a housekeeping report, with zeros after it.
-fn housekeeping_source(c: Housekeeping, rest: &[u8]) -> [u8; 235]
-    requires { ⌜ length (now rest) ≤ 234 ⌝ }
-    ensures { λ r. ⌜ take (length (now (rest .entry)) + 1) r ≡ sourceData (Content.Housekeeping c) (now (rest .entry) ∷ []) ⌝ }
-{
-    let mut source = [0u8; 235];
-    let numbers = [c.sid];
-    octets::put(&mut source, 0, &numbers);
-    octets::put(&mut source, 1, rest);
-    source
-}
-
-// The source data of an available image, right if both blocks have 80 octets.
-fn available_source(c: Available, first: &[u8], second: &[u8]) -> [u8; 166]
-    ensures { λ r. ⌜ Laid (Content.Available c) (now (first .entry) ∷ now (second .entry) ∷ []) r ⌝ }
-{
-    let mut source = [0u8; 166];
-    let image = octets::word_octets(c.image);
-    let ticks = octets::four_octets(c.ticks);
-    octets::put(&mut source, 0, &image);
-    octets::put(&mut source, 2, &ticks);
-    octets::put(&mut source, 6, first);
-    octets::put(&mut source, 86, second);
-    source
-}
-
-// The source data of an image line, right if there are 188 pixels.
-fn line_source(c: Line, pixels: &[u8]) -> [u8; 191]
-    ensures { λ r. ⌜ Laid (Content.Line c) (now (pixels .entry) ∷ []) r ⌝ }
-{
-    let mut source = [0u8; 191];
-    let image = octets::word_octets(c.image);
-    let numbers = [image[0], image[1], c.line];
-    octets::put(&mut source, 0, &numbers);
-    octets::put(&mut source, 3, pixels);
-    source
+    let n = a.len() + b.len() + c.len() + d.len();
+    let source = lay(a, b, c, d);
+    packet.write(&source[..n], out)
 }
 
 impl Success {
@@ -127,8 +61,10 @@ impl Success {
     pub fn write(self, packet: Packet, out: &mut [u8]) -> Written
         ensures { λ r. ⌜ WroteReport packet (Content.Success self) [] (now (out .entry)) r (now (out .exit)) ⌝ }
     {
-        let source = success_source(self);
-        write(success_wrong(packet, self), packet, &source, out)
+        let wrong = !table::success(packet.service, packet.subtype);
+        let id = octets::word_octets(self.id);
+        let control = octets::word_octets(self.control);
+        write(wrong, packet, &id, &control, b"", b"", out)
     }
 }
 
@@ -137,8 +73,11 @@ impl Failure {
     pub fn write(self, packet: Packet, out: &mut [u8]) -> Written
         ensures { λ r. ⌜ WroteReport packet (Content.Failure self) [] (now (out .entry)) r (now (out .exit)) ⌝ }
     {
-        let source = failure_source(self);
-        write(failure_wrong(packet, self), packet, &source, out)
+        let wrong = !table::failure(packet.service, packet.subtype);
+        let id = octets::word_octets(self.id);
+        let control = octets::word_octets(self.control);
+        let code = octets::word_octets(self.code);
+        write(wrong, packet, &id, &control, &code, b"", out)
     }
 }
 
@@ -147,17 +86,10 @@ impl Housekeeping {
     pub fn write(self, packet: Packet, rest: &[u8], out: &mut [u8]) -> Written
         ensures { λ r. ⌜ WroteReport packet (Content.Housekeeping self) (now (rest .entry) ∷ []) (now (out .entry)) r (now (out .exit)) ⌝ }
     {
-        let n = rest.len();
-        if 234 < n {
-            return Written::Refused(answer::FIELD_RANGE);
-        }
-        let source = housekeeping_source(self, rest);
-        write(
-            housekeeping_wrong(packet, self, rest),
-            packet,
-            &source[..n + 1],
-            out,
-        )
+        let wrong = !table::housekeeping(packet.service, packet.subtype)
+            | (rest.len() != self.length);
+        let sid = [self.sid];
+        write(wrong, packet, &sid, b"", rest, b"", out)
     }
 }
 
@@ -166,13 +98,11 @@ impl Available {
     pub fn write(self, packet: Packet, first: &[u8], second: &[u8], out: &mut [u8]) -> Written
         ensures { λ r. ⌜ WroteReport packet (Content.Available self) (now (first .entry) ∷ now (second .entry) ∷ []) (now (out .entry)) r (now (out .exit)) ⌝ }
     {
-        let source = available_source(self, first, second);
-        write(
-            available_wrong(packet, self, first, second),
-            packet,
-            &source,
-            out,
-        )
+        let wrong = !table::available(packet.service, packet.subtype)
+            | ((first.len() != Available::BLOCK) | (second.len() != Available::BLOCK));
+        let image = octets::word_octets(self.image);
+        let ticks = octets::four_octets(self.ticks);
+        write(wrong, packet, &image, &ticks, first, second, out)
     }
 }
 
@@ -181,7 +111,11 @@ impl Line {
     pub fn write(self, packet: Packet, pixels: &[u8], out: &mut [u8]) -> Written
         ensures { λ r. ⌜ WroteReport packet (Content.Line self) (now (pixels .entry) ∷ []) (now (out .entry)) r (now (out .exit)) ⌝ }
     {
-        let source = line_source(self, pixels);
-        write(line_wrong(packet, self, pixels), packet, &source, out)
+        let wrong = !table::image_line(packet.service, packet.subtype)
+            | (pixels.len() != Line::PIXELS)
+            | (Line::LAST < self.line);
+        let image = octets::word_octets(self.image);
+        let line = [self.line];
+        write(wrong, packet, &image, &line, pixels, b"", out)
     }
 }

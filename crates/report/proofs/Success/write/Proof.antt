@@ -1,21 +1,22 @@
 -- `report::Success::write` meets its contract.
-use borrow.Author.Needs.{needs}
+use mathlib.Core.Path.{refl}
 use mathlib.Core.List.{[]}
-use Rattle.report.proofs.Write.{reported}
+use borrow.Author.Needs.{needs}
+use Rattle.report.proofs.Write.{reported, numbers-first, success-wrong}
 use Rattle.report.specs.declared.Content.the-variants as content
 use Rattle.report.proofs.Success.write.Statement.{statement}
 use Rattle.report.proofs.Success.write.Tie as tie
 
 returns : tie.Need-returns
 returns c =
-    let m = c .before .before .before .before .before in
-    let a = m .before .before .before .args in
-    reported (a .packet) (content.Success (a .self)) [] _ _ (m .success-wrong .ensures) (m .before .success-source .ensures)
+    let a = c .before .before .before .before .before .before .before .before .before .before .before .before .args in
+    reported (a .packet) (content.Success (a .self)) []
+    (success-wrong (a .packet) (a .self) (c .before .before .before .before .before .before .before .before .before .before .success .ensures (a .packet) refl refl))
+    (numbers-first [] [] (c .before .before .before .before .before .before .before .before .before .word-octets .ensures) (c .before .before .before .before .before .before .before .before .word-octets2 .ensures) refl)
     (c .before .before .write .ensures)
 
 pub write-spec : {M : Type 1} → statement M
 write-spec =
     tie.close
     (tie.spec
-    (λ c κs. search needs) (λ c κs. search needs) (λ c. search needs) (λ c κs. search needs) (λ c. search needs)
-    returns)
+    (λ c κs. search needs) (λ c κs. search needs) (λ c κs. search needs) (λ c. search needs) (λ c. search needs) (λ c. search needs) (λ c. search needs) (λ c κs. search needs) (λ c. search needs) returns)

@@ -1,6 +1,7 @@
 -- `report::table::find` meets its contract. The loop has passed i pairs that are others.
 use Prim.Native.Nat.{_≤_, _-_}
 use mathlib.Core.Path.{_≡_, refl, sym, _∙_}
+use native.Mathlib.Omega.{arith}
 use native.Mathlib.Numerals.{add-one}
 use lib.ListN.{drop}
 use borrow.Author.Needs.{needs}
@@ -17,29 +18,29 @@ abbrev μ-loop : tie.MeasureT-loop
 
 loop-holds : tie.Need-loop-holds Inv-loop μ-loop
 unfolding findPair
-loop-holds c = (search needs, refl)
+loop-holds c = (omega arith, refl)
 
 returns : tie.Need-returns Inv-loop μ-loop
 returns c =
-    let k = c .before .before .before .before .before in
-    found-here _ _ pairs (k .loop .i) (pair 0 0 0 0) (search needs) (c .if1 .taken) ∙ sym (k .loop .inv .1)
+    let k = c .before .before .before .before in
+    found-here _ _ pairs (k .before .loop .i) (pair 0 0 0 0) (k .loop-test .taken) (c .if1 .taken) ∙ sym (k .before .loop .inv .1)
 
 loop-again : tie.Need-loop-again Inv-loop μ-loop
 loop-again c =
-    let k = c .before .before .before .before .before in (
-      search needs,
-      simp add-one
-          (k .loop .inv .1 ∙ sym (found-later _ _ pairs (k .loop .i) (pair 0 0 0 0) (search needs) (c .if1 .left))),
+    let k = c .before .before .before .before in (
+      omega arith,
+      rw add-one
+          (k .before .loop .inv .1 ∙ sym (found-later _ _ pairs (k .before .loop .i) (pair 0 0 0 0) (k .loop-test .taken) (c .if1 .left))),
     )
 
 returns-2 : tie.Need-returns-2 Inv-loop μ-loop
 returns-2 c =
-    let e : c .before .loop .i ≡ 9 = search needs in
+    let e : c .before .loop .i ≡ 9 = omega arith in
     sym (rw e at (c .before .loop .inv .1))
 
 pub find-spec : {M : Type 1} → statement M
 find-spec =
     tie.close
     (tie.spec
-    Inv-loop μ-loop loop-holds (λ c. search needs) (λ c. search needs) returns (λ c. search needs)
-    (λ c. search needs) loop-again returns-2)
+    Inv-loop μ-loop loop-holds (λ c. search needs) (λ c. omega arith) returns (λ c. search needs)
+    (λ c. omega arith) loop-again returns-2)
