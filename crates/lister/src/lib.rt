@@ -1,7 +1,7 @@
 // Lists a recording that comes on standard input, each frame's lines as soon as the frame is whole.
 //
-// The sections and the lines are recording's, the frames the session's, the packets the packet reader's. Here are the buffers, the
-// reads and writes, and the loops: their proofs say that nothing is reached outside a buffer and that each loop ends.
+// What stands where is recording's, the text of a line lines', the frames the session's, the packets the packet reader's. Here are the
+// buffers, the reads and writes, and the loops: their proofs say that nothing is reached outside a buffer and that each loop ends.
 ghost use Prim.Native.Nat.{_+_, _≤_};
 ghost use mathlib.Core.Path.{_≡_};
 ghost use lib.ListN.{length, take, drop};
@@ -262,7 +262,7 @@ fn answer_line(out: &mut [u8], used: usize, arrival: u32, answer: StepAnswer) ->
     requires { ⌜ used ≤ length (now out) ⌝ }
     ensures { λ r. ⌜ r ≤ length (now (out .exit)) ⌝ }
 {
-    let written = recording::answer_line(&mut out[used..], arrival, answer);
+    let written = lines::answer_line(&mut out[used..], arrival, answer);
     behind(out, used, written)
 }
 
@@ -271,7 +271,7 @@ fn packet_line(out: &mut [u8], used: usize, arrival: u32, size: u16, read: Packe
     requires { ⌜ used ≤ length (now out) ⌝ }
     ensures { λ r. ⌜ r ≤ length (now (out .exit)) ⌝ }
 {
-    let written = recording::packet_line(&mut out[used..], arrival, size, read);
+    let written = lines::packet_line(&mut out[used..], arrival, size, read);
     behind(out, used, written)
 }
 
@@ -279,7 +279,7 @@ fn packet_line(out: &mut [u8], used: usize, arrival: u32, size: u16, read: Packe
 fn header_line(out: &mut [u8]) -> usize
     ensures { λ r. ⌜ r ≤ length (now (out .exit)) ⌝ }
 {
-    let written = recording::header_line(out);
+    let written = lines::header_line(out);
     behind(out, 0, written)
 }
 
@@ -287,7 +287,7 @@ fn header_line(out: &mut [u8]) -> usize
 fn bad_line(out: &mut [u8]) -> usize
     ensures { λ r. ⌜ r ≤ length (now (out .exit)) ⌝ }
 {
-    let written = recording::bad_line(out);
+    let written = lines::bad_line(out);
     behind(out, 0, written)
 }
 
