@@ -1,6 +1,6 @@
 -- Laws of decimal digits: how many there are, and that they are put from the last to the first.
 use Prim.Native.Nat.{ℕ, zero, suc, _+_, _-_, _*_, _/_, _%_, _^_, _≤_, _<_}
-use mathlib.Core.Path.{_≡_, refl, sym, ap, _∙_}
+use mathlib.Core.Path.{_≡_, refl, sym, ap, _∙_, subst}
 use mathlib.Core.List.{List, [], _∷_, _++_, append-assoc, append-nil}
 use native.Mathlib.Omega.{arith}
 use native.Mathlib.Numerals.{add-one, one-add}
@@ -49,7 +49,7 @@ spelt (suc f) (suc (suc k)) n h w =
     simp (le-ltb n 10 big) (ap (λ (l : List ℕ). l ++ ((48 + n % 10) ∷ [])) ih)
 
 -- the fewest digits that hold n are its decimal digits
-pub last-decimal : (k n : ℕ) → k ≤ 10 → Fewest n k → lastDigits k n ≡ decimal n
+last-decimal : (k n : ℕ) → k ≤ 10 → Fewest n k → lastDigits k n ≡ decimal n
 unfolding decimal
 last-decimal k n h w = spelt 10 k n h w
 
@@ -71,8 +71,33 @@ pub decimal-last : (n : ℕ) → lastDigits (length (decimal n)) n ≡ decimal n
 unfolding decimal
 decimal-last n = below-last 10 n
 
-pub how-many : (k n : ℕ) → k ≤ 10 → Fewest n k → k ≡ length (decimal n)
-how-many k n h w = sym (length-last k n) ∙ ap length (last-decimal k n h w)
+-- n has k digits or more, and bound is the least number that has more than k
+pub record Counting (n k bound : ℕ) : Type 0 where
+  pub some : 1 ≤ k
+  pub most : k ≤ 10
+  pub power : bound ≡ 10 ^ k
+  pub least : 1 < k → 10 ^ (k - 1) ≤ n
+
+pub one-place : (n : ℕ) → Counting n 1 10
+one-place n = record { some = omega arith; most = omega arith; power = refl; least = λ h. absurd (omega arith) }
+
+pub one-place-more : {n k bound : ℕ} → k < 10 → bound ≤ n → Counting n k bound → Counting n (k + 1) (bound * 10)
+one-place-more {n} {k} h b c =
+    let before : k + 1 - 1 ≡ k = omega arith in
+    record {
+      some = omega arith;
+      most = omega arith;
+      power = ap (λ (m : ℕ). m * 10) (c .power) ∙ sym (pow-suc 10 k) ∙ ap (λ (m : ℕ). 10 ^ m) (sym (add-one k));
+      least = λ _. rw (before, ← c .power) b;
+    }
+
+pub how-many : {n k bound : ℕ} → Counting n k bound → n < bound → k ≡ length (decimal n)
+how-many {n} {k} c h = sym (length-last k n) ∙ ap length (last-decimal k n (c .most) (c .some, rw (c .power) at h, c .least))
+
+pub ten-places : {n k bound : ℕ} → Counting n k bound → 10 ≤ k → n < 10 ^ 10 → 10 ≡ length (decimal n)
+ten-places {n} {k} c h small =
+    let all : k ≡ 10 = omega (arith, c .most) in
+    sym all ∙ how-many c (subst (λ (m : ℕ). n < m) (ap (λ (m : ℕ). 10 ^ m) (sym all) ∙ sym (c .power)) small)
 
 -- a text, and the octet before it
 before-laid : (out : List ℕ) (at : ℕ) (text : List ℕ) (g : ℕ) → at + 1 + length text ≤ length out → set (overlay out (at + 1) text) at g ≡ overlay out at (g ∷ text)

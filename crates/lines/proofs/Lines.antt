@@ -1,13 +1,15 @@
 -- Texts laid one behind another are one line.
-use Prim.Native.Nat.{ℕ, _+_, _≤_}
-use native.Mathlib.Nat.{zero-add}
+use Prim.Native.Nat.{ℕ, _+_, _*_, _≤_, _<_}
+use native.Mathlib.Nat.{zero-add, add-zero, add-assoc}
+use native.Mathlib.Numerals.{add-one}
 use native.Mathlib.Omega.{arith}
-use mathlib.Core.Path.{_≡_, refl, ap, _∙_}
-use mathlib.Core.List.{List, _++_}
+use mathlib.Core.Path.{_≡_, refl, sym, ap, _∙_}
+use mathlib.Core.List.{List, [], _∷_, _++_, append-assoc}
 use mathlib.Core.Bool.{false}
-use lib.ListN.{length, take, drop, length-append}
-use lib.Seq.{take-append-seam, drop-append-add, drop-drop}
-use Rattle.octets.specs.Parts.{overlay, written}
+use lib.ListN.{length, getD, take, drop, length-append}
+use lib.Seq.{take-append-seam, take-at, take-suc, drop-append-add, drop-drop, length-take-le, paste-zero}
+use Rattle.octets.specs.Parts.{overlay, put, written}
+use Rattle.octets.proofs.Placing.{put-fits}
 use Rattle.octets.specs.Pick.{pick}
 use Rattle.packet.specs.Packet.{told}
 use Rattle.packet.specs.declared.Packet.{Packet}
@@ -19,37 +21,66 @@ use Rattle.session.specs.declared.StepAnswer.the-variants as steps
 use Rattle.answer.specs.Writer.{Wrote}
 use Rattle.answer.specs.declared.Written.the-variants.{Length}
 use Rattle.answer.proofs.Writer.{wrote}
-use Rattle.lines.specs.Text.{Laid, Lined, acceptedLine, refusedLine, packetLine, turnedAwayLine, packetText, answerText}
+use Rattle.lines.specs.Text.{decimal, spaced, Laid, Lined, acceptedLine, refusedLine, packetLine, turnedAwayLine, packetText, answerText}
 
--- text stands at the start of out, and r is its length, at most `most`
-pub record Begun (text out out′ : List ℕ) (r most : ℕ) : Type 0 where
-  pub leaves : out′ ≡ written text out
-  pub size : r ≡ length text
-  pub near : r ≤ most
-
-pub begin : (text out out′ : List ℕ) (r : ℕ) → Laid text out 0 out′ r → Begun text out out′ r 11
-begin text out out′ r l = record {
-  leaves = l .leaves ∙ simp zero-add;
-  size = omega (arith, l .behind);
+-- the same text, said otherwise
+pub resaid : {most more : ℕ} {text text′ out out′ : List ℕ} {at r : ℕ} → text ≡ text′ → most ≤ more → Laid most text out at out′ r → Laid more text′ out at out′ r
+resaid {out = out} {at = at} e m l = record {
+  leaves = l .leaves ∙ ap (overlay out at) e;
+  behind = l .behind ∙ ap (λ (t : List ℕ). at + length t) e;
   near = omega (arith, l .near);
 }
 
-pub next : {a out out₁ : List ℕ} {r₁ most : ℕ} (b out₂ : List ℕ) (r₂ : ℕ) → Begun a out out₁ r₁ most → Laid b out₁ r₁ out₂ r₂ → Begun (a ++ b) out out₂ r₂ (most + 11)
-next {a} {out} {out₁} {r₁} {most} b out₂ r₂ s l = record {
-  leaves = l .leaves
-      ∙ ap (λ (o : List ℕ). overlay o r₁ b) (s .leaves)
-      ∙ ap (λ (n : ℕ). overlay (written a out) n b) (s .size)
-      ∙ simp (take-append-seam, drop-append-add, drop-drop, length-append);
-  size = simp length-append (omega (arith, l .behind, s .size));
-  near = omega (arith, l .near, s .near);
+overlay-behind : (out a b : List ℕ) (at : ℕ) → at ≤ length out → overlay (overlay out at a) (at + length a) b ≡ overlay out at (a ++ b)
+overlay-behind out a b at h =
+    let p : List ℕ = take at out ++ a in
+    let rest : List ℕ = drop (at + length a) out in
+    let l : length p ≡ at + length a = length-append (take at out) a ∙ ap (λ (n : ℕ). n + length a) (length-take-le at out h) in
+    ap (λ (x : List ℕ). x ++ b ++ drop (at + length a + length b) (p ++ rest)) (take-at p rest (at + length a) l)
+    ∙ ap (λ (n : ℕ). p ++ b ++ drop (n + length b) (p ++ rest)) (sym l)
+    ∙ simp (drop-append-add, drop-drop, length-append, append-assoc, add-assoc)
+
+-- a text laid behind another is one text with it
+pub joined : {m k : ℕ} {a b out out₁ out₂ : List ℕ} {at r₁ r₂ : ℕ} → at ≤ length out → Laid m a out at out₁ r₁ → Laid k b out₁ r₁ out₂ r₂ → Laid (m + k) (a ++ b) out at out₂ r₂
+joined {a = a} {b} {out} {at = at} {r₁} h x y = record {
+  leaves = y .leaves
+      ∙ ap (λ (o : List ℕ). overlay o r₁ b) (x .leaves)
+      ∙ ap (λ (n : ℕ). overlay (overlay out at a) n b) (x .behind)
+      ∙ overlay-behind out a b at h;
+  behind = simp length-append (omega (arith, x .behind, y .behind));
+  near = omega (arith, x .near, y .near);
 }
 
-pub ended : {text out out′ : List ℕ} {r most : ℕ} (line : List ℕ) → Begun text out out′ r most → text ≡ line → most ≤ 80 → Lined line out out′ r
-ended {text} {out} line s e m = record {
-  leaves = s .leaves ∙ ap (λ (t : List ℕ). written t out) e;
-  size = s .size ∙ ap length e;
-  most = omega (arith, s .near);
-}
+-- a text behind numbers
+spaced-then : (ns text : List ℕ) → spaced ns [] ++ text ≡ spaced ns text
+spaced-then [] text = refl
+spaced-then (n ∷ ns) text = append-assoc (decimal n) (32 ∷ spaced ns []) text ∙ ap (λ (t : List ℕ). decimal n ++ (32 ∷ t)) (spaced-then ns text)
+
+pub behind-numbers : {m k : ℕ} {text out out₁ out₂ : List ℕ} {at r₁ r₂ : ℕ} (ns : List ℕ) → at ≤ length out → Laid m (spaced ns []) out at out₁ r₁ → Laid k text out₁ r₁ out₂ r₂
+    → Laid (m + k) (spaced ns text) out at out₂ r₂
+behind-numbers {text = text} ns h x y = resaid (spaced-then ns text) (omega arith) (joined h x y)
+
+-- no number, and one more
+pub no-number : (out : List ℕ) (at : ℕ) → Laid 0 [] out at out at
+no-number out at = record { leaves = paste-zero out at []; behind = sym (add-zero at); near = omega arith }
+
+spaced-last : (ns : List ℕ) (n : ℕ) → spaced ns (decimal n ++ (32 ∷ [])) ≡ spaced (ns ++ (n ∷ [])) []
+spaced-last [] n = refl
+spaced-last (m ∷ ns) n = ap (λ (t : List ℕ). decimal m ++ (32 ∷ t)) (spaced-last ns n)
+
+pub one-number-more : {out out₁ out₂ : List ℕ} {at r₁ r₂ : ℕ} (list : List ℕ) (i : ℕ) → i < length list → at ≤ length out → Laid (11 * i) (spaced (take i list) []) out at out₁ r₁
+    → Laid 11 (decimal (getD list i 0) ++ (32 ∷ [])) out₁ r₁ out₂ r₂ → Laid (11 * (i + 1)) (spaced (take (i + 1) list) []) out at out₂ r₂
+one-number-more list i inside h x y =
+    let e : take (i + 1) list ≡ take i list ++ (getD list i 0 ∷ []) = ap (λ (k : ℕ). take k list) (add-one i) ∙ take-suc list i 0 inside in
+    resaid (spaced-last (take i list) (getD list i 0) ∙ ap (λ (l : List ℕ). spaced l []) (sym e)) (omega arith) (behind-numbers (take i list) h x y)
+
+-- octets put where they have room
+pub put-laid : {text out out′ : List ℕ} {at : ℕ} → at + length text ≤ length out → out′ ≡ put out at text → Laid (length text) text out at out′ (at + length text)
+put-laid {text} {out} {at = at} h e = record { leaves = e ∙ sym (put-fits out at text h); behind = refl; near = omega arith }
+
+-- a text laid at the start is a line
+pub lined : {most : ℕ} {text out out′ : List ℕ} {r : ℕ} → most ≤ 80 → Laid most text out 0 out′ r → Lined text out out′ r
+lined h l = record { leaves = l .leaves ∙ simp zero-add; size = omega (arith, l .behind); most = omega (arith, l .near) }
 
 -- what stands at the start of the output is the line
 pub line-there : {text out out′ : List ℕ} {r : ℕ} → Lined text out out′ r → take r out′ ≡ text

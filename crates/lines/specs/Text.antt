@@ -33,6 +33,11 @@ abbrev pub line : List ℕ → List (List ℕ) → List ℕ
 line word [] = word ++ (10 ∷ [])
 line word (next ∷ words) = word ++ (32 ∷ line next words)
 
+-- Numbers, each with a space behind it, then a text.
+abbrev pub spaced : List ℕ → List ℕ → List ℕ
+spaced [] text = text
+spaced (n ∷ numbers) text = decimal n ++ (32 ∷ spaced numbers text)
+
 -- A dash.
 abbrev pub dash : List ℕ
 dash = 45 ∷ []
@@ -83,11 +88,11 @@ header =
 abbrev pub badRecording : List ℕ
 badRecording = line (98 ∷ 97 ∷ 100 ∷ []) ((114 ∷ 101 ∷ 99 ∷ 111 ∷ 114 ∷ 100 ∷ 105 ∷ 110 ∷ 103 ∷ []) ∷ [])
 
--- A text was laid into out from index at on, and r is the index behind it.
-pub record Laid (text out : List ℕ) (at : ℕ) (out′ : List ℕ) (r : ℕ) : Type 0 where
+-- A text of at most `most` octets was laid into out from index at on, and r is the index behind it.
+pub record Laid (most : ℕ) (text out : List ℕ) (at : ℕ) (out′ : List ℕ) (r : ℕ) : Type 0 where
   pub leaves : out′ ≡ overlay out at text
   pub behind : r ≡ at + length text
-  pub near : r ≤ at + 11
+  pub near : r ≤ at + most
 
 -- A line was laid at the start of out, and r is its length.
 pub record Lined (text out out′ : List ℕ) (r : ℕ) : Type 0 where

@@ -2,31 +2,31 @@
 ghost use mathlib.Core.Path.{_≡_};
 ghost use mathlib.Core.List.{[], _∷_, _++_};
 ghost use mathlib.Core.Bool.{false};
-ghost use Prim.Native.Nat.{_+_, _≤_};
+ghost use Prim.Native.Nat.{_+_, _*_, _≤_};
 ghost use lib.ListN.{length};
 ghost use Rattle.octets.specs.Parts.{overlay};
 ghost use Rattle.answer.specs.Writer.{Wrote};
 ghost use Rattle.packet.specs.Packet.{told as toldPacket};
 ghost use Rattle.session.specs.Step.{told as toldStep};
-ghost use Rattle.lines.specs.Text.{decimal, Laid, Lined, acceptedLine, refusedLine, packetLine, turnedAwayLine, packetText, answerText, header, badRecording};
+ghost use Rattle.lines.specs.Text.{decimal, spaced, Laid, Lined, acceptedLine, refusedLine, packetLine, turnedAwayLine, packetText, answerText, header, badRecording};
 use answer::Written;
 use packet::PacketRead;
 use session::StepAnswer;
 
-// Puts a character and the one after it into out from index at on, and answers the index behind them.
-fn letter(out: &mut [u8], at: usize, x: u8, after: u8) -> usize
-    requires { ⌜ at + 11 ≤ length (now out) ⌝ }
-    ensures { λ r. ⌜ Laid (x ∷ after ∷ []) (now (out .entry)) at (now (out .exit)) r ⌝ }
+// Puts a letter and a space at the start of out, and answers the index behind them.
+fn letter(out: &mut [u8], x: u8) -> usize
+    requires { ⌜ 2 ≤ length (now out) ⌝ }
+    ensures { λ r. ⌜ Laid 2 (x ∷ 32 ∷ []) (now (out .entry)) 0 (now (out .exit)) r ⌝ }
 {
-    out[at] = x;
-    out[at + 1] = after;
-    at + 2
+    out[0] = x;
+    out[1] = b' ';
+    2
 }
 
 // Puts n's decimal digits and the character after them into out from index at on, and answers the index behind them.
 fn number(out: &mut [u8], at: usize, n: u32, after: u8) -> usize
     requires { ⌜ at + 11 ≤ length (now out) ⌝ }
-    ensures { λ r. ⌜ Laid (decimal n ++ (after ∷ [])) (now (out .entry)) at (now (out .exit)) r ⌝ }
+    ensures { λ r. ⌜ Laid 11 (decimal n ++ (after ∷ [])) (now (out .entry)) at (now (out .exit)) r ⌝ }
 {
     let k = places(n);
     digits(out, at, n, k);
@@ -40,32 +40,14 @@ fn places(n: u32) -> usize
     ensures { λ r. ⌜ r ≡ length (decimal n) ⌝ }
     ensures { λ r. ⌜ r ≤ 10 ⌝ }
 {
-    if n < 10 {
-        return 1;
-    }
-    if n < 100 {
-        return 2;
-    }
-    if n < 1000 {
-        return 3;
-    }
-    if n < 10000 {
-        return 4;
-    }
-    if n < 100000 {
-        return 5;
-    }
-    if n < 1000000 {
-        return 6;
-    }
-    if n < 10000000 {
-        return 7;
-    }
-    if n < 100000000 {
-        return 8;
-    }
-    if n < 1000000000 {
-        return 9;
+    let mut k = 1;
+    let mut bound: u64 = 10;
+    while k < 10 {
+        if (n as u64) < bound {
+            return k;
+        }
+        bound *= 10;
+        k += 1;
     }
     10
 }
@@ -85,17 +67,28 @@ fn digits(out: &mut [u8], at: usize, n: u32, k: usize)
     }
 }
 
+// Puts each number of a list and a space behind it into out from index at on, and answers the index behind them.
+fn numbers(out: &mut [u8], at: usize, list: &[u32]) -> usize
+    requires { ⌜ at + 11 * length (now list) ≤ length (now out) ⌝ }
+    ensures { λ r. ⌜ Laid (11 * length (now (list .entry))) (spaced (now (list .entry)) []) (now (out .entry)) at (now (out .exit)) r ⌝ }
+{
+    let mut next = at;
+    let mut i = 0;
+    while i < list.len() {
+        next = number(out, next, list[i], b' ');
+        i += 1;
+    }
+    next
+}
+
 // Puts the line of an accepted frame at the start of out, and answers its length.
 fn accepted(out: &mut [u8], arrival: u32, channel: u8, lost: u8, master: u8, packets: u8) -> usize
     requires { ⌜ 80 ≤ length (now out) ⌝ }
     ensures { λ r. ⌜ Lined (acceptedLine arrival channel lost master packets) (now (out .entry)) (now (out .exit)) r ⌝ }
 {
-    let a = number(out, 0, arrival, b' ');
-    let b = letter(out, a, b'0', b' ');
-    let c = number(out, b, channel as u32, b' ');
-    let d = number(out, c, lost as u32, b' ');
-    let e = number(out, d, master as u32, b' ');
-    number(out, e, packets as u32, b'\n')
+    let list = [arrival, 0, channel as u32, lost as u32, master as u32];
+    let next = numbers(out, 0, &list);
+    number(out, next, packets as u32, b'\n')
 }
 
 // Puts the line of a refused frame at the start of out, and answers its length.
@@ -103,12 +96,21 @@ fn refused(out: &mut [u8], arrival: u32, refusal: u16) -> usize
     requires { ⌜ 80 ≤ length (now out) ⌝ }
     ensures { λ r. ⌜ Lined (refusedLine arrival refusal) (now (out .entry)) (now (out .exit)) r ⌝ }
 {
-    let a = number(out, 0, arrival, b' ');
-    let b = number(out, a, refusal as u32, b' ');
-    let c = letter(out, b, b'-', b' ');
-    let d = letter(out, c, b'-', b' ');
-    let e = letter(out, d, b'-', b' ');
-    letter(out, e, b'-', b'\n')
+    let list = [arrival, refusal as u32];
+    let next = numbers(out, 0, &list);
+    octets::put(out, next, b"- - - -\n");
+    next + 8
+}
+
+// Puts a packet's line at the start of out: a letter, a list of numbers and the packet's length; and answers the line's length.
+fn lettered(out: &mut [u8], x: u8, list: &[u32], size: u32) -> usize
+    requires { ⌜ 80 ≤ length (now out) ⌝ }
+    requires { ⌜ length (now list) ≤ 6 ⌝ }
+    ensures { λ r. ⌜ Lined (x ∷ 32 ∷ spaced (now (list .entry)) (decimal size ++ (10 ∷ []))) (now (out .entry)) (now (out .exit)) r ⌝ }
+{
+    let at = letter(out, x);
+    let next = numbers(out, at, list);
+    number(out, next, size, b'\n')
 }
 
 // Puts the line of a packet that the packet reader accepts at the start of out, and answers its length.
@@ -124,13 +126,14 @@ fn taken(
     requires { ⌜ 80 ≤ length (now out) ⌝ }
     ensures { λ r. ⌜ Lined (packetLine arrival apid sequence service subtype size) (now (out .entry)) (now (out .exit)) r ⌝ }
 {
-    let start = letter(out, 0, b'P', b' ');
-    let a = number(out, start, arrival, b' ');
-    let b = number(out, a, apid as u32, b' ');
-    let c = number(out, b, sequence as u32, b' ');
-    let d = number(out, c, service as u32, b' ');
-    let e = number(out, d, subtype as u32, b' ');
-    number(out, e, size, b'\n')
+    let list = [
+        arrival,
+        apid as u32,
+        sequence as u32,
+        service as u32,
+        subtype as u32,
+    ];
+    lettered(out, b'P', &list, size)
 }
 
 // Puts the line of a packet that the packet reader turns away at the start of out, and answers its length.
@@ -138,10 +141,8 @@ fn turned_away(out: &mut [u8], arrival: u32, refusal: u16, size: u32) -> usize
     requires { ⌜ 80 ≤ length (now out) ⌝ }
     ensures { λ r. ⌜ Lined (turnedAwayLine arrival refusal size) (now (out .entry)) (now (out .exit)) r ⌝ }
 {
-    let start = letter(out, 0, b'Q', b' ');
-    let a = number(out, start, arrival, b' ');
-    let b = number(out, a, refusal as u32, b' ');
-    number(out, b, size, b'\n')
+    let list = [arrival, refusal as u32];
+    lettered(out, b'Q', &list, size)
 }
 
 // Puts a text at the start of out and answers its length; else 50, and out stays.

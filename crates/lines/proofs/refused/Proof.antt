@@ -1,8 +1,7 @@
 -- `lines::refused` meets its contract.
-use mathlib.Core.List.{append-assoc}
+use mathlib.Core.List.{[], _∷_}
 use Rattle.lines.specs.Text.{refusedLine}
-use Rattle.lines.proofs.Lines.{begin, next, ended}
-use native.Mathlib.Omega.{arith}
+use Rattle.lines.proofs.Lines.{behind-numbers, put-laid, lined}
 use borrow.Author.Needs.{needs}
 use Rattle.lines.proofs.refused.Statement.{statement}
 use Rattle.lines.proofs.refused.Tie as tie
@@ -10,23 +9,13 @@ use Rattle.lines.proofs.refused.Tie as tie
 returns : tie.Need-returns
 unfolding refusedLine
 returns c =
-    let p5 = c .before .before in
-    let p4 = p5 .before .before .before .before in
-    let p3 = p4 .before .before .before .before in
-    let p2 = p3 .before .before .before .before in
-    let p1 = p2 .before .before .before .before in
-    let p0 = p1 .before .before .before .before in
-    let t0 = begin _ _ _ _ (p0 .number .ensures) in
-    let t1 = next _ _ _ t0 (p1 .number2 .ensures) in
-    let t2 = next _ _ _ t1 (p2 .letter .ensures) in
-    let t3 = next _ _ _ t2 (p3 .letter2 .ensures) in
-    let t4 = next _ _ _ t3 (p4 .letter3 .ensures) in
-    let t5 = next _ _ _ t4 (p5 .letter4 .ensures) in
-    ended _ t5 (simp append-assoc) (omega arith)
+    let n = c .before .before .before .before .before .before .before in
+    let a = n .before .before .before .before .args in
+    lined (search needs) (behind-numbers (a .arrival ∷ a .refusal ∷ []) (search needs) (n .numbers .ensures) (put-laid (search needs) (c .before .before .put .ensures)))
 
 pub refused-spec : {M : Type 1} → statement M
 refused-spec =
     tie.close
     (tie.spec
-    (λ c κs. search needs) (λ c κs. search needs) (λ c κs. search needs) (λ c κs. search needs)
-    (λ c κs. search needs) (λ c κs. search needs) (λ c. search needs) returns)
+    (λ c. search needs) (λ c κs. search needs) (λ c. search needs) (λ c κs. search needs) (λ c. search needs)
+    (λ c. search needs) returns)

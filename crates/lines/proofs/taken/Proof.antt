@@ -1,34 +1,9 @@
 -- `lines::taken` meets its contract.
-use mathlib.Core.List.{append-assoc}
 use Rattle.lines.specs.Text.{packetLine}
-use Rattle.lines.proofs.Lines.{begin, next, ended}
-use native.Mathlib.Omega.{arith}
 use borrow.Author.Needs.{needs}
 use Rattle.lines.proofs.taken.Statement.{statement}
 use Rattle.lines.proofs.taken.Tie as tie
 
-returns : tie.Need-returns
-unfolding packetLine
-returns c =
-    let p6 = c .before .before in
-    let p5 = p6 .before .before .before .before in
-    let p4 = p5 .before .before .before .before in
-    let p3 = p4 .before .before .before .before in
-    let p2 = p3 .before .before .before .before in
-    let p1 = p2 .before .before .before .before in
-    let p0 = p1 .before .before .before .before in
-    let t0 = begin _ _ _ _ (p0 .letter .ensures) in
-    let t1 = next _ _ _ t0 (p1 .number .ensures) in
-    let t2 = next _ _ _ t1 (p2 .number2 .ensures) in
-    let t3 = next _ _ _ t2 (p3 .number3 .ensures) in
-    let t4 = next _ _ _ t3 (p4 .number4 .ensures) in
-    let t5 = next _ _ _ t4 (p5 .number5 .ensures) in
-    let t6 = next _ _ _ t5 (p6 .number6 .ensures) in
-    ended _ t6 (simp append-assoc) (omega arith)
-
 pub taken-spec : {M : Type 1} → statement M
-taken-spec =
-    tie.close
-    (tie.spec
-    (λ c κs. search needs) (λ c κs. search needs) (λ c κs. search needs) (λ c κs. search needs)
-    (λ c κs. search needs) (λ c κs. search needs) (λ c κs. search needs) (λ c. search needs) returns)
+unfolding packetLine
+taken-spec = tie.close (tie.spec (λ c. search needs) (λ c κs. search needs) (λ c. search needs) (λ c. c .before .before .lettered .ensures))
