@@ -19,6 +19,7 @@ use Rattle.session.specs.Step.{told as toldStep}
 use Rattle.session.specs.declared.StepAnswer.{StepAnswer}
 use Rattle.session.specs.declared.StepAnswer.the-variants as steps
 use Rattle.answer.specs.Writer.{Wrote}
+use Rattle.answer.specs.declared.Written.{Written}
 use Rattle.answer.specs.declared.Written.the-variants.{Length}
 use Rattle.answer.proofs.Writer.{wrote}
 use Rattle.lines.specs.Text.{decimal, spaced, Laid, Lined, acceptedLine, refusedLine, packetLine, turnedAwayLine, packetText, answerText}
@@ -82,13 +83,20 @@ put-laid {text} {out} {at = at} h e = record { leaves = e ∙ sym (put-fits out 
 pub lined : {most : ℕ} {text out out′ : List ℕ} {r : ℕ} → most ≤ 80 → Laid most text out 0 out′ r → Lined text out out′ r
 lined h l = record { leaves = l .leaves ∙ simp zero-add; size = omega (arith, l .behind); most = omega (arith, l .near) }
 
--- what stands at the start of the output is the line
-pub line-there : {text out out′ : List ℕ} {r : ℕ} → Lined text out out′ r → take r out′ ≡ text
-line-there {text} {out} {out′} {r} l = ap (take r) (l .leaves) ∙ ap (λ (n : ℕ). take n (written text out)) (l .size) ∙ take-append-seam text (drop (length text) out)
+module _ {text out out′ : List ℕ} {r : ℕ} (l : Lined text out out′ r) where
+  -- a line with room enough is written
+  pub line-written : 80 ≤ length out → Wrote false text out (Length r) out′
+  line-written room = wrote {said = false} refl refl (omega (arith, l .size, l .most)) (l .size) (l .leaves)
 
--- a line with room enough is written
-pub line-written : {text out out′ : List ℕ} {r : ℕ} → Lined text out out′ r → 80 ≤ length out → Wrote false text out (Length r) out′
-line-written l room = wrote {said = false} refl refl (omega (arith, l .size, l .most)) (l .size) (l .leaves)
+  -- a line that was laid elsewhere, and written from there
+  pub line-inside : 80 ≤ length out′ → r ≡ length (take r out′)
+  line-inside room = sym (length-take-le r out′ (omega (arith, l .most)))
+
+  line-there : take r out′ ≡ text
+  line-there = ap (take r) (l .leaves) ∙ ap (λ (n : ℕ). take n (written text out)) (l .size) ∙ take-append-seam text (drop (length text) out)
+
+  pub line-copied : {to to′ : List ℕ} {w : Written} → Wrote false (take r out′) to w to′ → Wrote false text to w to′
+  line-copied c = rw line-there at c
 
 module _ (arrival size : ℕ) {r : ℕ} {out out′ : List ℕ} {read : PacketRead} where
   pub taken-line : {p : Packet} → read ≡ variants.Packet p → Lined (packetLine arrival (p .apid) (p .sequence .0) (p .service) (p .subtype) size) out out′ r
