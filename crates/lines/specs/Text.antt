@@ -73,6 +73,11 @@ packetText arrival size t =
     (packetLine arrival (t .fields .apid) (t .fields .sequence .0) (t .fields .service) (t .fields .subtype) size)
     (turnedAwayLine arrival (t .refusal) size)
 
+-- No line of a frame or a packet is longer than 80 octets.
+pub record LinesAreShort : Type 0 where
+  pub answers : (arrival : ℕ) (t : Told Accepted) → length (answerText arrival t) ≤ 80
+  pub packets : (arrival size : ℕ) (t : Told Packet) → length (packetText arrival size t) ≤ 80
+
 -- "arrival answer channel lost master packets"
 abbrev pub header : List ℕ
 header =
