@@ -1,2 +1,4 @@
+pub mod Handed
 pub mod Moves
 pub mod Places
+pub mod Writing

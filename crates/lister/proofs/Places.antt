@@ -1,34 +1,19 @@
 -- What the answers of recording say of the places in a window.
 use Prim.Native.Nat.{ℕ, _+_, _-_, _≤_}
-use mathlib.Core.Path.{_≡_, refl, sym, ap, _∙_, subst}
+use mathlib.Core.Path.{_≡_, sym, ap, subst}
 use mathlib.Core.List.{List}
-use mathlib.Core.Bool.{Bool, true, false, true≢false, false≢true}
+use mathlib.Core.Bool.{Bool, true, false, false≢true}
 use native.Mathlib.Omega.{arith}
 use lib.ListN.{length, take, drop, length-drop}
 use lib.Seq.{length-take-le}
-use lib.Dec.{ltb}
 use borrow.Author.Tests.{ltb-false}
 use Rattle.octets.specs.Numbers.{at}
 use Rattle.octets.specs.Pick.{pick}
 use Rattle.octets.proofs.Choices.{not-picked}
-use Rattle.answer.specs.Told.{Told, accept, refuse}
-use Rattle.answer.specs.Refusals.{outputShort}
-use Rattle.answer.specs.Writer.{told, writing, Wrote}
-use Rattle.answer.specs.declared.Written.{Written}
-use Rattle.answer.specs.declared.Written.the-variants.{Length}
 use Rattle.lister.specs.Held.{Within}
 use Rattle.lister.specs.declared.Kind.{Kind}
 use Rattle.lister.specs.declared.Kind.the-variants.{Settings, Count, Frame}
 use Rattle.recording.specs.Sections.{Seen, whole, wrong, missing, settingsAt, countAt, frameAt, lengthAt}
-
--- a writer that was not refused wrote no more than it was lent
-pub written-fits : {text out out′ : List ℕ} {r : Written} {n : ℕ} → Wrote false text out r out′ → r ≡ Length n → n ≤ length out
-unfolding writing pick
-written-fits {text} {out} {out′} {r} {n} w e = by-room (ltb (length out) (length text)) refl (ap told (sym e) ∙ w .answers)
-  where
-    by-room : (b : Bool) → ltb (length out) (length text) ≡ b → accept n ≡ pick b (refuse 0 outputShort) (accept (length text)) → n ≤ length out
-    by-room true h q = absurd (true≢false (ap (λ (t : Told ℕ). t .accepted) q))
-    by-room false h q = let room : length text ≤ length out = ltb-false _ _ h in omega (arith, ap (λ (t : Told ℕ). t .fields) q)
 
 -- a choice that came to something that its second case is not
 picked-first : {A : Type 0} (b : Bool) (x y z : A) → pick b x y ≡ z → (y ≡ z → ⊥) → x ≡ z

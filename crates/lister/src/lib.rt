@@ -1,11 +1,15 @@
 // Lists a recording that comes on standard input, each frame's lines as soon as the frame is whole.
 //
-// The sections and the lines are recording's, the frames the session's, the packets the packet reader's. Here are the buffers, the
-// reads and writes, and the loops: their proofs say that nothing is reached outside a buffer and that each loop ends.
-ghost use Prim.Native.Nat.{_+_, _≤_};
+// What stands where is recording's, the text of a line lines', the frames the session's, the packets the packet reader's. Here are the
+// buffers, the reads and writes, and the loops: their proofs say that nothing is reached outside a buffer and that each loop ends.
+ghost use Prim.Native.Nat.{_+_, _*_, _≤_};
 ghost use mathlib.Core.Path.{_≡_};
 ghost use lib.ListN.{length, take, drop};
-ghost use Rattle.lister.specs.Held.{Held, Readied, Ends, Sees};
+ghost use Rattle.answer.specs.Writer.{told};
+ghost use Rattle.packet.specs.Packet.{told as toldPacket};
+ghost use Rattle.session.specs.Step.{told as toldStep};
+ghost use Rattle.lines.specs.Text.{Laid, answerText, packetText, header, badRecording};
+ghost use Rattle.lister.specs.Held.{room, Held, Readied, Sees};
 use answer::Written;
 use libc::STDIN_FILENO;
 use libc::STDOUT_FILENO;
@@ -15,8 +19,8 @@ use recording::Section;
 use session::Session;
 use session::StepAnswer;
 
-// The most octets that the lines of one frame take.
-const ROOM: usize = 2048;
+// The most octets that the lines of one frame take: its own and those of 16 packets, each of at most 80.
+const ROOM: usize = 1360;
 
 // The input's octets from at up to end are read and not yet used; the output's first `used` are not yet written. Once a write failed
 // nothing more is read or written.
@@ -57,7 +61,10 @@ pub fn run() {
 }
 
 // The whole run: an input and an output buffer, and room for the packets of a frame and their lengths.
-fn listed(input: &mut [u8], out: &mut [u8], octets: &mut [u8], lengths: &mut [u16]) {
+fn listed(input: &mut [u8], out: &mut [u8], octets: &mut [u8], lengths: &mut [u16])
+    requires { ⌜ room ≤ length (now out) ⌝ }
+    requires { ⌜ length (now lengths) ≡ 16 ⌝ }
+{
     let turn = opened(input, out, octets, lengths);
     let before = turn.state;
     let state = flushed(out, before);
@@ -79,6 +86,8 @@ fn listed(input: &mut [u8], out: &mut [u8], octets: &mut [u8], lengths: &mut [u1
 
 // The settings, and then the rest.
 fn opened(input: &mut [u8], out: &mut [u8], octets: &mut [u8], lengths: &mut [u16]) -> Turn
+    requires { ⌜ room ≤ length (now out) ⌝ }
+    requires { ⌜ length (now lengths) ≡ 16 ⌝ }
     ensures { λ r. ⌜ Held (r .state) (length (now (input .exit))) (length (now (out .exit))) ⌝ }
 {
     let none = State {
@@ -114,6 +123,7 @@ fn counted(
     session: Session,
 ) -> Turn
     requires { ⌜ Held s (length (now input)) (length (now out)) ⌝ }
+    requires { ⌜ length (now lengths) ≡ 16 ⌝ }
     ensures { λ r. ⌜ Held (r .state) (length (now (input .exit))) (length (now (out .exit))) ⌝ }
 {
     let ready = waited(input, out, s, Kind::Count);
@@ -150,6 +160,7 @@ fn frames(
     count: usize,
 ) -> Turn
     requires { ⌜ Held s (length (now input)) (length (now out)) ⌝ }
+    requires { ⌜ length (now lengths) ≡ 16 ⌝ }
     ensures { λ r. ⌜ Held (r .state) (length (now (input .exit))) (length (now (out .exit))) ⌝ }
 {
     let mut session = opened;
@@ -168,7 +179,7 @@ fn frames(
         let answer = stepped.answer;
         let end = state.end;
         let failed = state.failed;
-        let used = lines(out, state.used, session.arrival, answer, octets, lengths);
+        let used = frame_lines(out, state.used, session.arrival, answer, octets, lengths);
         state = State {
             at: to,
             end,
@@ -204,7 +215,7 @@ fn framed(input: &mut [u8], out: &mut [u8], s: State) -> Ready
 }
 
 // The lines of a frame and of the packets that it completes, put behind what the output has, and how much it then has.
-fn lines(
+fn frame_lines(
     out: &mut [u8],
     used: usize,
     arrival: u32,
@@ -212,7 +223,9 @@ fn lines(
     octets: &[u8],
     lengths: &[u16],
 ) -> usize
-    requires { ⌜ used ≤ length (now out) ⌝ }
+    requires { ⌜ used + room ≤ length (now out) ⌝ }
+    requires { ⌜ toldStep answer .fields .packets ≤ 16 ⌝ }
+    requires { ⌜ length (now lengths) ≡ 16 ⌝ }
     ensures { λ r. ⌜ r ≤ length (now (out .exit)) ⌝ }
 {
     let next = answer_line(out, used, arrival, answer);
@@ -237,17 +250,15 @@ fn packet_lines(
     octets: &[u8],
     lengths: &[u16],
 ) -> usize
-    requires { ⌜ used ≤ length (now out) ⌝ }
-    requires { ⌜ packets ≤ 255 ⌝ }
+    requires { ⌜ used + 80 * packets ≤ length (now out) ⌝ }
+    requires { ⌜ packets ≤ 16 ⌝ }
+    requires { ⌜ length (now lengths) ≡ 16 ⌝ }
     ensures { λ r. ⌜ r ≤ length (now (out .exit)) ⌝ }
 {
     let mut next = used;
     let mut from = 0;
     let mut i = 0;
     while i < packets {
-        if lengths.len() <= i {
-            return next;
-        }
         let size = lengths[i];
         let read = Packet::read(octets::part(octets, from, size as usize));
         next = packet_line(out, next, arrival, size, read);
@@ -259,47 +270,45 @@ fn packet_lines(
 
 // A frame's line behind the first `used` octets of the output, and how much it then has.
 fn answer_line(out: &mut [u8], used: usize, arrival: u32, answer: StepAnswer) -> usize
-    requires { ⌜ used ≤ length (now out) ⌝ }
-    ensures { λ r. ⌜ r ≤ length (now (out .exit)) ⌝ }
+    requires { ⌜ used + 80 ≤ length (now out) ⌝ }
+    ensures { λ r. ⌜ Laid 80 (answerText arrival (toldStep answer)) (now (out .entry)) used (now (out .exit)) r ⌝ }
 {
-    let written = recording::answer_line(&mut out[used..], arrival, answer);
-    behind(out, used, written)
+    let written = lines::answer_line(&mut out[used..], arrival, answer);
+    used + line_size(written)
 }
 
 // A packet's line, the same way.
 fn packet_line(out: &mut [u8], used: usize, arrival: u32, size: u16, read: PacketRead) -> usize
-    requires { ⌜ used ≤ length (now out) ⌝ }
-    ensures { λ r. ⌜ r ≤ length (now (out .exit)) ⌝ }
+    requires { ⌜ used + 80 ≤ length (now out) ⌝ }
+    ensures { λ r. ⌜ Laid 80 (packetText arrival size (toldPacket read)) (now (out .entry)) used (now (out .exit)) r ⌝ }
 {
-    let written = recording::packet_line(&mut out[used..], arrival, size, read);
-    behind(out, used, written)
+    let written = lines::packet_line(&mut out[used..], arrival, size, read);
+    used + line_size(written)
 }
 
 // The first line at the output's start, and how much the output then has.
 fn header_line(out: &mut [u8]) -> usize
-    ensures { λ r. ⌜ r ≤ length (now (out .exit)) ⌝ }
+    requires { ⌜ 80 ≤ length (now out) ⌝ }
+    ensures { λ r. ⌜ Laid 80 header (now (out .entry)) 0 (now (out .exit)) r ⌝ }
 {
-    let written = recording::header_line(out);
-    behind(out, 0, written)
+    line_size(lines::header_line(out))
 }
 
 // The line of a bad recording, the same way.
 fn bad_line(out: &mut [u8]) -> usize
-    ensures { λ r. ⌜ r ≤ length (now (out .exit)) ⌝ }
+    requires { ⌜ 80 ≤ length (now out) ⌝ }
+    ensures { λ r. ⌜ Laid 80 badRecording (now (out .entry)) 0 (now (out .exit)) r ⌝ }
 {
-    let written = recording::bad_line(out);
-    behind(out, 0, written)
+    line_size(lines::bad_line(out))
 }
 
-// How much the output has after a line is put behind its first `used` octets.
-fn behind(out: &[u8], used: usize, written: Written) -> usize
-    requires { ⌜ used ≤ length (now out) ⌝ }
-    requires { ⌜ Ends written used (length (now out)) ⌝ }
-    ensures { λ r. ⌜ r ≤ length (now (out .entry)) ⌝ }
+// How many octets of a line were written.
+fn line_size(written: Written) -> usize
+    ensures { λ r. ⌜ r ≡ told written .fields ⌝ }
 {
     match written {
-        Written::Length(n) => used + n,
-        Written::Refused(_) => used,
+        Written::Length(n) => n,
+        Written::Refused(_) => 0,
     }
 }
 
@@ -375,6 +384,7 @@ fn look(kind: Kind, window: &[u8]) -> Section
 fn more(input: &mut [u8], out: &[u8], s: State, n: usize) -> State
     requires { ⌜ Held s (length (now input)) (length (now out)) ⌝ }
     ensures { λ r. ⌜ Held r (length (now (input .exit))) (length (now (out .entry))) ⌝ }
+    ensures { λ r. ⌜ r .used ≡ 0 ⌝ }
 {
     let state = flushed(out, s);
     let at = state.at;

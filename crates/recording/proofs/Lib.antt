@@ -1,5 +1,3 @@
-pub mod Decimal
-pub mod Lines
 pub mod Pieces
 pub mod Sections
 pub mod Unique

@@ -52,11 +52,11 @@ see-settings w (no a) false e c d = is-bad (λ p. settings-other (w ++ p) (same-
 see-settings w (no a) true e (yes c) d = waits _ (settings-cut w refl (omega (arith, a)) (eqb-true _ _ e) c)
 see-settings w (no a) true e (no c) (yes d) =
     is-bad
-    (λ p. settings-above (w ++ p) (same-count w p (omega (arith, a))) (omega (arith, c, longer w p)) (omega (arith, a, longer w p)) (eqb-true _ _ e) (omega (arith, d, same-at w p 4 (omega (arith, c)))))
+    (λ p. settings-above (w ++ p) (same-count w p (omega (arith, a))) (eqb-true _ _ e) (omega (arith, c, longer w p)) (omega (arith, d, same-at w p 4 (omega (arith, c)))))
 see-settings w (no a) true e (no c) (no d) =
     is-whole (at w 4) (omega (arith, c))
     (λ p. ap whole (sym (same-at w p 4 (omega (arith, c))))
-    ∙ settings-whole (w ++ p) (same-count w p (omega (arith, a))) (omega (arith, c, longer w p)) (omega (arith, a, longer w p)) (eqb-true _ _ e) (omega (arith, d, same-at w p 4 (omega (arith, c)))))
+    ∙ settings-whole (w ++ p) (same-count w p (omega (arith, a))) (eqb-true _ _ e) (omega (arith, c, longer w p)) (omega (arith, d, same-at w p 4 (omega (arith, c)))))
 
 -- with no octets behind it
 alone : {s : Seen} (look : List ℕ → Seen) (w : List ℕ) → ((p : List ℕ) → s ≡ look (w ++ p)) → s ≡ look w

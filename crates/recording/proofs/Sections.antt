@@ -2,6 +2,7 @@
 use Prim.Native.Nat.{ℕ, _+_, _-_, _≤_, _<_}
 use mathlib.Core.Path.{_≡_}
 use mathlib.Core.List.{List}
+use native.Mathlib.Nat.{le-of-suc-le}
 use lib.ListN.{length}
 use borrow.Author.Tests.{lt-ltb, le-ltb, eq-eqb, ne-eqb}
 use Rattle.octets.specs.Numbers.{at, four}
@@ -25,13 +26,13 @@ module _ (w : List ℕ) where
     unfolding settingsAt pick
     settings-cut a b c = simp (le-ltb _ _ a, eq-eqb _ _ (rw e at b), lt-ltb _ _ c)
 
-    pub settings-above : 5 ≤ length w → 4 ≤ length w → n ≡ 1 → 8 < at w 4 → wrong ≡ settingsAt w
+    pub settings-above : n ≡ 1 → 5 ≤ length w → 8 < at w 4 → wrong ≡ settingsAt w
     unfolding settingsAt pick
-    settings-above c a b d = simp (le-ltb _ _ a, eq-eqb _ _ (rw e at b), le-ltb _ _ c, lt-ltb _ _ d)
+    settings-above b c d = simp (le-ltb _ _ (le-of-suc-le {n = 4} c), eq-eqb _ _ (rw e at b), le-ltb _ _ c, lt-ltb _ _ d)
 
-    pub settings-whole : 5 ≤ length w → 4 ≤ length w → n ≡ 1 → at w 4 ≤ 8 → whole (at w 4) ≡ settingsAt w
+    pub settings-whole : n ≡ 1 → 5 ≤ length w → at w 4 ≤ 8 → whole (at w 4) ≡ settingsAt w
     unfolding settingsAt pick
-    settings-whole c a b d = simp (le-ltb _ _ a, eq-eqb _ _ (rw e at b), le-ltb _ _ c, le-ltb _ _ d)
+    settings-whole b c d = simp (le-ltb _ _ (le-of-suc-le {n = 4} c), eq-eqb _ _ (rw e at b), le-ltb _ _ c, le-ltb _ _ d)
 
     pub count-whole : 4 ≤ length w → whole n ≡ countAt w
     unfolding countAt pick

@@ -11,7 +11,7 @@ frames-requires c κs =
     let f = c .before .before .before .before .before .before .before .before .before .before .before .before .waited in
     let h = f .ensures .held in
     let w = f .ensures .within (not-false _ (c .before .before .before .before .before .if1 .left)) in
-    record { from = omega (arith, w, h .from); until = omega (arith, h .until); filled = h .filled }
+    (record { from = omega (arith, w, h .from); until = omega (arith, h .until); filled = h .filled; large = h .large }, search needs)
 
 same-length-7 : tie.Need-same-length-7
 same-length-7 c = c .before .before .before .more .kept .0 ∙ c .before .before .before .before .before .before .before .before .before .before .before .before .before .before .before .before .before .frames .kept .0 ∙ c .before .before .before .before .before .before .before .before .before .before .before .before .before .before .before .before .before .before .before .before .before .before .before .before .before .before .before .before .before .before .waited .kept .0

@@ -15,6 +15,7 @@ returns c =
     let a = s .args in
     record {
       held = s .pre;
+      left = search needs;
       within = λ _. within-part Kinds.Frame _ (a .s .at) (a .s .end) (now (a .input)) (s .pre .from) (s .pre .until) (frame-within _ (ap told (sym (c .before .number .given .1)) ∙ k .frame .ensures));
     }
 

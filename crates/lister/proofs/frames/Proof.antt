@@ -4,6 +4,7 @@ use borrow.Author.Tests.{not-false}
 use mathlib.Core.Path.{_≡_, _∙_}
 use lib.ListN.{length}
 use Rattle.lister.specs.Held.{Held}
+use Rattle.lister.proofs.Handed.{few-packets}
 use native.Mathlib.Omega.{arith}
 use borrow.Author.Needs.{needs}
 use Rattle.lister.proofs.frames.Statement.{statement}
@@ -31,8 +32,12 @@ part-step-end c =
     let w = f .ensures .within (not-false _ (c .before .before .before .if1 .left)) in
     omega (arith, w, h .from, h .until)
 
-lines-requires : tie.Need-lines-requires Inv-loop μ-loop
-lines-requires c κs = c .before .before .before .before .before .before .before .before .before .before .before .before .before .before .before .before .before .before .before .before .before .before .framed .ensures .held .filled
+frame-lines-requires : tie.Need-frame-lines-requires Inv-loop μ-loop
+frame-lines-requires c κs =
+    let s = c .before .before .before .before .before .before .before .before .step in
+    let l = c .before .before .before .before .before .before .before .before .before .before .before .before .before .before .before .before .before .before .before .before .before .before .before .before .before .before in
+    let many : length (s .last .1 .1 .1 .0) ≡ 16 = s .kept .1 .1 .1 .0 ∙ l .loop .inv .3 ∙ c .before .before .before .before .before .before .before .before .before .before .before .before .before .before .before .before .before .before .before .before .before .before .before .before .before .before .before .before .before .before .before .pre .1 in
+    (c .before .before .before .before .before .before .before .before .before .before .before .before .before .before .before .before .before .before .before .before .before .before .framed .ensures .left, (omega (arith, few-packets (l .loop .session) _ (s .ensures) (s .kept .1 .1 .1 .0)), many))
 
 sub-left : tie.Need-sub-left Inv-loop μ-loop
 sub-left c = omega (arith, c .before .before .before .before .before .before .before .before .before .before .before .before .before .before .before .before .before .before .before .before .before .before .before .before .before .before .before .before .loop-test .taken)
@@ -47,7 +52,7 @@ loop-again c =
     let w = f .ensures .within (not-false _ (c .before .before .before .before .before .before .before .before .before .before .before .before .before .before .before .before .before .before .if1 .left)) in
     let l = c .before .before .before .before .before .before .before .before .before .before .before .before .before .before .before .before .before .before .before .before .before .before .before .before .before .before .before .before .before .loop in
     let s = c .before .before .before .before .before .before .before .before .before .before .before .step in
-    let n = c .before .before .lines in
+    let n = c .before .before .frame-lines in
     let a = c .before .before .before .before .before .before .before .before .before .before .before .before .before .before .before .before .before .before .before .before .before .before .before .before .before .before .before .before .before .before .before .before .before .before .args in
     let i : length (f .last .0) ≡ length (now (a .input)) = f .kept .0 ∙ l .inv .0 in
     let o : length (n .last .0) ≡ length (f .last .1 .0) = n .kept .0 in (
@@ -55,7 +60,7 @@ loop-again c =
       n .kept .0 ∙ f .kept .1 .0 ∙ l .inv .1,
       s .kept .1 .1 .0 ∙ l .inv .2,
       s .kept .1 .1 .1 .0 ∙ l .inv .3,
-      record { from = omega (arith, w, h .from); until = omega (arith, h .until); filled = n .ensures },
+      record { from = omega (arith, w, h .from); until = omega (arith, h .until); filled = n .ensures; large = omega (arith, h .large) },
     )
 
 pub frames-spec : {M : Type 1} → statement M
@@ -64,5 +69,5 @@ frames-spec =
     (tie.spec
     Inv-loop μ-loop (λ c. search needs) (λ c κs. search needs) (λ c. search needs) (λ c. search needs)
     (λ c. search needs) (λ c. search needs) (λ c. search needs) (λ c. search needs) add-to (λ c. search needs)
-    (λ c. search needs) part-step-end (λ c κs. search needs) lines-requires sub-left loop-less loop-again
+    (λ c. search needs) part-step-end (λ c κs. search needs) frame-lines-requires sub-left loop-less loop-again
     (λ c. search needs) (λ c. search needs) (λ c. search needs) (λ c. search needs) (λ c. search needs))

@@ -25,7 +25,7 @@ counted-requires c κs =
     let f = c .before .before .before .before .before .before .before .before .before .before .before .before .before .before .before .before .before .before .before .waited in
     let h = f .ensures .held in
     let w = f .ensures .within (not-false _ (c .before .before .before .before .before .before .before .before .before .before .before .before .if1 .left)) in
-    record { from = omega (arith, w .0, h .from); until = omega (arith, h .until); filled = c .before .before .before .before .before .before .before .before .header-line .ensures }
+    (record { from = omega (arith, w .0, h .from); until = omega (arith, h .until); filled = search needs; large = search needs }, c .before .before .before .before .before .before .before .before .before .before .before .before .before .before .before .before .before .before .before .before .before .before .before .before .before .before .pre .1)
 
 same-length-3 : tie.Need-same-length-3
 same-length-3 c = c .before .before .before .before .before .before .before .before .counted .kept .0 ∙ c .before .before .before .before .before .before .before .before .before .before .before .before .before .before .before .before .before .before .before .before .before .before .before .before .before .before .before .before .waited .kept .0

@@ -4,15 +4,9 @@ use borrow.Author.Needs.{needs}
 use Rattle.recording.proofs.count.Statement.{statement}
 use Rattle.recording.proofs.count.Tie as tie
 
-returns : tie.Need-returns
-returns c = count-short _ (search needs)
-
-returns-2 : tie.Need-returns-2
-returns-2 c = count-whole _ (c .four .ensures) (search needs)
-
 pub count-spec : {M : Type 1} → statement M
 count-spec =
     tie.close
     (tie.spec
-    (λ c. search needs) returns (λ c. search needs) (λ c. search needs) (λ c. search needs) (λ c. search needs)
-    (λ c κs. search needs) (λ c. search needs) returns-2)
+    (λ c. search needs) (λ c. count-short _ (c .if1 .taken)) (λ c. search needs) (λ c. search needs) (λ c. search needs) (λ c. search needs)
+    (λ c κs. search needs) (λ c. search needs) (λ c. count-whole _ (c .four .ensures) (c .before .before .before .before .before .if1 .left)))

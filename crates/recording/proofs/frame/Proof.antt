@@ -4,21 +4,18 @@ use borrow.Author.Needs.{needs}
 use Rattle.recording.proofs.frame.Statement.{statement}
 use Rattle.recording.proofs.frame.Tie as tie
 
-returns : tie.Need-returns
-returns c = frame-short _ (search needs)
-
 returns-2 : tie.Need-returns-2
-returns-2 c = frame-long _ (c .before .word .ensures) (search needs) (search needs)
+returns-2 c = frame-long _ (c .before .word .ensures) (c .before .before .before .before .if1 .left) (c .if2 .taken)
 
 returns-3 : tie.Need-returns-3
-returns-3 c = frame-cut _ (c .before .before .word .ensures) (search needs) (search needs) (search needs)
+returns-3 c = frame-cut _ (c .before .before .word .ensures) (c .before .before .before .before .before .if1 .left) (c .before .if2 .left) (c .if3 .taken)
 
 returns-4 : tie.Need-returns-4
-returns-4 c = frame-whole _ (c .before .before .word .ensures) (search needs) (search needs) (search needs)
+returns-4 c = frame-whole _ (c .before .before .word .ensures) (c .before .before .before .before .before .if1 .left) (c .before .if2 .left) (c .if3 .left)
 
 pub frame-spec : {M : Type 1} → statement M
 frame-spec =
     tie.close
     (tie.spec
-    (λ c. search needs) returns (λ c. search needs) (λ c. search needs) (λ c κs. search needs)
+    (λ c. search needs) (λ c. frame-short _ (c .if1 .taken)) (λ c. search needs) (λ c. search needs) (λ c κs. search needs)
     (λ c. search needs) returns-2 (λ c. search needs) (λ c. search needs) (λ c. search needs) returns-3 returns-4)

@@ -1,0 +1,9 @@
+-- `lines::taken` meets its contract.
+use Rattle.lines.specs.Text.{packetLine}
+use borrow.Author.Needs.{needs}
+use Rattle.lines.proofs.taken.Statement.{statement}
+use Rattle.lines.proofs.taken.Tie as tie
+
+pub taken-spec : {M : Type 1} → statement M
+unfolding packetLine
+taken-spec = tie.close (tie.spec (λ c. search needs) (λ c κs. search needs) (λ c. search needs) (λ c. c .before .before .lettered .ensures))

@@ -1,0 +1,9 @@
+-- `lines::turned_away` meets its contract.
+use Rattle.lines.specs.Text.{turnedAwayLine}
+use borrow.Author.Needs.{needs}
+use Rattle.lines.proofs.turned_away.Statement.{statement}
+use Rattle.lines.proofs.turned_away.Tie as tie
+
+pub turned-away-spec : {M : Type 1} → statement M
+unfolding turnedAwayLine
+turned-away-spec = tie.close (tie.spec (λ c. search needs) (λ c κs. search needs) (λ c. search needs) (λ c. c .before .before .lettered .ensures))
