@@ -80,7 +80,7 @@ fn word(s: &[u8], high: usize, low: usize) -> u16
     octets::word(octet(s, high), octet(s, low))
 }
 
-// The content of the packet s of a known pair, whose fields are p.
+// The content of the packet s of a known pair, whose fields are p, from the first three words of its source data; ticks are two of them.
 fn content_of(p: Packet, s: &[u8]) -> Content
     requires { ⌜ 1 ≤ p .length ⌝ }
     ensures { λ r. ⌜ r ≡ contentOf p (now (s .entry)) ⌝ }

@@ -35,7 +35,7 @@ fn lay(a: &[u8], b: &[u8], c: &[u8], d: &[u8]) -> [u8; 478]
     source
 }
 
-// The core: refusal 51 if wrong, else what the packet's writer does with four strings one after another as source data.
+// The core: refusal 51 if wrong or a string is longer than any source data, else what the packet's writer does with four strings one after another.
 fn write(
     wrong: bool,
     packet: Packet,
