@@ -25,6 +25,10 @@ callsignWrong c =
     not (sign (c .0)) || breaks (c .0) (c .1) || breaks (c .1) (c .2) || breaks (c .2) (c .3) || breaks (c .3) (c .4)
     || breaks (c .4) (c .5)
 
+-- What no address may be: an SSID of more than 4 bits, or a wrong callsign.
+abbrev pub unfit : Address → Bool
+unfit a = ltb 15 (a .ssid) || callsignWrong (a .callsign)
+
 -- ---- the seven octets
 
 -- A letter or digit, shifted: the low bit is 0.

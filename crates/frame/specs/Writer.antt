@@ -5,17 +5,16 @@ use mathlib.Core.Bool.{Bool, not, _||_}
 use lib.Dec.{ltb, eqb}
 use Rattle.crc.specs.Check.{frameCheck, octetsOf}
 use Rattle.crc.specs.Check.Order.{lowFirst}
-use Rattle.frame.specs.Address.{callsignWrong, addressOctets}
+use Rattle.frame.specs.Address.{unfit, addressOctets}
 use Rattle.frame.specs.Frame.{flagOf, pointerWrong}
 use Rattle.frame.specs.declared.Frame.{Frame}
 
 -- 51, of fields that are lent n octets of data and m octets of time: t above 8, time not t octets, another length than the data's,
--- data above 251 - t, a channel of 3 bits, telecommands of 2, SSIDs of 4, pointer wrong, callsigns wrong.
+-- data above 251 - t, a channel of 3 bits, telecommands of 2, pointer wrong, an address with an SSID of 4 bits or its callsign wrong.
 unfoldable pub fieldsWrong : Frame → ℕ → ℕ → ℕ → Bool
 fieldsWrong f t n m =
     ltb 8 t || (not (eqb m t) || not (eqb (f .length) n) || ltb (251 - t) n || ltb 7 (f .channel) || ltb 3 (f .telecommands)
-    || ltb 15 (f .destination .ssid) || ltb 15 (f .source .ssid) || pointerWrong (f .pointer) n
-    || callsignWrong (f .destination .callsign) || callsignWrong (f .source .callsign))
+    || pointerWrong (f .pointer) n || unfit (f .destination) || unfit (f .source))
 
 -- Control, protocol, and the information's first four octets.
 abbrev pub headOf : Frame → List ℕ

@@ -2,7 +2,7 @@
 ghost use mathlib.Core.Path.{_≡_};
 ghost use lib.ListN.{length};
 ghost use Prim.Native.Nat.{_≤_};
-ghost use Rattle.frame.specs.Address.{sign, breaks, callsignWrong, shiftedSign, startWrong, nextWrong, ssidWrong, firstWrong, addressOf, addressOctets};
+ghost use Rattle.frame.specs.Address.{sign, breaks, unfit, shiftedSign, startWrong, nextWrong, ssidWrong, firstWrong, addressOf, addressOctets};
 ghost use Rattle.frame.specs.Asked.{Fits};
 use super::Address;
 use super::Callsign;
@@ -32,16 +32,18 @@ fn breaks(before: u8, x: u8) -> bool
     (x != SPACE) & ((before == SPACE) | !sign(x))
 }
 
-// Whether c is not one to six letters and digits, then only spaces.
-pub(crate) fn callsign_wrong(c: Callsign) -> bool
-    ensures { λ r. ⌜ r ≡ callsignWrong c ⌝ }
+// Whether the SSID has more than 4 bits, or the callsign is not one to six letters and digits, then only spaces.
+pub(crate) fn unfit(a: Address) -> bool
+    ensures { λ r. ⌜ r ≡ unfit a ⌝ }
 {
-    !sign(c.0)
-        | breaks(c.0, c.1)
-        | breaks(c.1, c.2)
-        | breaks(c.2, c.3)
-        | breaks(c.3, c.4)
-        | breaks(c.4, c.5)
+    let c = a.callsign;
+    (15 < a.ssid)
+        | (!sign(c.0)
+            | breaks(c.0, c.1)
+            | breaks(c.1, c.2)
+            | breaks(c.2, c.3)
+            | breaks(c.3, c.4)
+            | breaks(c.4, c.5))
 }
 
 // Whether x is a letter or digit, shifted left one bit.

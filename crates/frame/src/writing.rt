@@ -18,18 +18,14 @@ pub(crate) fn fields_wrong(f: Frame, t: usize, n: usize, m: usize) -> bool
     if 8 < t {
         return true;
     }
-    let destination = f.destination;
-    let source = f.source;
     (m != t)
         | (f.length != n)
         | (Frame::GREATEST - Frame::LEAST - t < n)
         | (7 < f.channel)
         | (3 < f.telecommands)
-        | (15 < destination.ssid)
-        | (15 < source.ssid)
         | reading::pointer_wrong(f.pointer, n)
-        | addresses::callsign_wrong(destination.callsign)
-        | addresses::callsign_wrong(source.callsign)
+        | addresses::unfit(f.destination)
+        | addresses::unfit(f.source)
 }
 
 // The six octets after the addresses.

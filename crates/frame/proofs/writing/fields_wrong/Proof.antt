@@ -8,12 +8,11 @@ use Rattle.frame.proofs.writing.fields_wrong.Tie as tie
 returns-2 : tie.Need-returns-2
 unfolding fieldsWrong
 returns-2 c =
-    let start = c .before .before .before .before .before .before .before .before .before .before in
     simp (
-      le-ltb _ _ (start .if1 .left),
+      le-ltb _ _ (c .before .before .before .before .before .before .if1 .left),
       c .before .before .pointer-wrong .ensures,
-      c .before .callsign-wrong .ensures,
-      c .callsign-wrong2 .ensures,
+      c .before .unfit .ensures,
+      c .unfit2 .ensures,
     )
 
 pub fields-wrong-spec : {M : Type 1} → statement M

@@ -1,6 +1,6 @@
 use borrow.Author.Needs.{needs}
-use Rattle.frame.proofs.addresses.callsign_wrong.Statement.{statement}
-use Rattle.frame.proofs.addresses.callsign_wrong.Tie as tie
+use Rattle.frame.proofs.addresses.unfit.Statement.{statement}
+use Rattle.frame.proofs.addresses.unfit.Tie as tie
 
 returns : tie.Need-returns
 returns c =
@@ -13,8 +13,8 @@ returns c =
       c .before .before .before .before .before .sign .ensures,
     )
 
-pub callsign-wrong-spec : {M : Type 1} → statement M
-callsign-wrong-spec =
+pub unfit-spec : {M : Type 1} → statement M
+unfit-spec =
     tie.close
     (tie.spec
     (λ c κs. search needs) (λ c κs. search needs) (λ c κs. search needs) (λ c κs. search needs)
