@@ -10,7 +10,8 @@ use borrow.Author.Tests.{ltb-false}
 use Rattle.octets.specs.Numbers.{at}
 use Rattle.octets.specs.Pick.{pick}
 use Rattle.octets.proofs.Choices.{not-picked}
-use Rattle.lister.specs.Held.{Within}
+use Rattle.lister.specs.Held.{Held, Within}
+use Rattle.lister.specs.declared.State.{State}
 use Rattle.lister.specs.declared.Kind.{Kind}
 use Rattle.lister.specs.declared.Kind.the-variants.{Settings, Count, Frame}
 use Rattle.recording.specs.Sections.{Seen, whole, wrong, missing, settingsAt, countAt, frameAt, lengthAt}
@@ -65,3 +66,8 @@ module _ {kind : Kind} (n : ℕ) {window : ℕ} where
 -- a section that lies within a part of a buffer lies within that many octets
 pub within-part : (kind : Kind) (n at end : ℕ) (i : List ℕ) → at ≤ end → end ≤ length i → Within kind n (length (take (end - at) (drop at i))) → Within kind n (end - at)
 within-part kind n at end i a b h = subst (λ (k : ℕ). Within kind n k) (length-take-le (end - at) (drop at i) (simp length-drop (omega arith))) h
+
+-- a state whose window begins further on, over buffers as long as before
+pub moved : {s : State} {i o i′ o′ at used : ℕ} {failed : Bool} → Held s i o → at ≤ s .end → i′ ≡ i → used ≤ o′ → o′ ≡ o
+    → Held (record { at = at; end = s .end; used = used; failed = failed }) i′ o′
+moved h inside same-i filled same-o = record { from = inside; until = omega (arith, h .until); filled = filled; large = omega (arith, h .large) }

@@ -1,10 +1,10 @@
 -- `lister::frames` meets its contract.
-use denote.Ref.{now}
 use borrow.Author.Tests.{not-false}
-use mathlib.Core.Path.{_≡_, _∙_}
+use mathlib.Core.Path.{_≡_, refl, _∙_}
 use lib.ListN.{length}
 use Rattle.lister.specs.Held.{Held}
 use Rattle.lister.proofs.Handed.{few-packets}
+use Rattle.lister.proofs.Places.{moved}
 use native.Mathlib.Omega.{arith}
 use borrow.Author.Needs.{needs}
 use Rattle.lister.proofs.frames.Statement.{statement}
@@ -52,15 +52,12 @@ loop-again c =
     let w = f .ensures .within (not-false _ (c .before .before .before .before .before .before .before .before .before .before .before .before .before .before .before .before .before .before .if1 .left)) in
     let l = c .before .before .before .before .before .before .before .before .before .before .before .before .before .before .before .before .before .before .before .before .before .before .before .before .before .before .before .before .before .loop in
     let s = c .before .before .before .before .before .before .before .before .before .before .before .step in
-    let n = c .before .before .frame-lines in
-    let a = c .before .before .before .before .before .before .before .before .before .before .before .before .before .before .before .before .before .before .before .before .before .before .before .before .before .before .before .before .before .before .before .before .before .before .args in
-    let i : length (f .last .0) ≡ length (now (a .input)) = f .kept .0 ∙ l .inv .0 in
-    let o : length (n .last .0) ≡ length (f .last .1 .0) = n .kept .0 in (
+    let n = c .before .before .frame-lines in (
       f .kept .0 ∙ l .inv .0,
       n .kept .0 ∙ f .kept .1 .0 ∙ l .inv .1,
       s .kept .1 .1 .0 ∙ l .inv .2,
       s .kept .1 .1 .1 .0 ∙ l .inv .3,
-      record { from = omega (arith, w, h .from); until = omega (arith, h .until); filled = n .ensures; large = omega (arith, h .large) },
+      moved h (omega (arith, w, h .from)) refl (n .ensures) (n .kept .0),
     )
 
 pub frames-spec : {M : Type 1} → statement M

@@ -1,6 +1,7 @@
 -- `lister::opened` meets its contract.
-use mathlib.Core.Path.{_∙_}
+use mathlib.Core.Path.{refl, _∙_}
 use borrow.Author.Tests.{not-false}
+use Rattle.lister.proofs.Places.{moved}
 use native.Mathlib.Omega.{arith}
 use borrow.Author.Needs.{needs}
 use Rattle.lister.proofs.opened.Statement.{statement}
@@ -22,10 +23,10 @@ add-t21 c =
 
 counted-requires : tie.Need-counted-requires
 counted-requires c κs =
-    let f = c .before .before .before .before .before .before .before .before .before .before .before .before .before .before .before .before .before .before .before .waited in
-    let h = f .ensures .held in
-    let w = f .ensures .within (not-false _ (c .before .before .before .before .before .before .before .before .before .before .before .before .if1 .left)) in
-    (record { from = omega (arith, w .0, h .from); until = omega (arith, h .until); filled = search needs; large = search needs }, c .before .before .before .before .before .before .before .before .before .before .before .before .before .before .before .before .before .before .before .before .before .before .before .before .before .before .pre .1)
+    let l = c .before .before .before .before .before .before .before .before .header-line in
+    let w = c .before .before .before .before .before .before .before .before .before .before .before .before .before .before .before .before .before .before .before .waited .ensures in
+    let inside = w .within (not-false _ (c .before .before .before .before .before .before .before .before .before .before .before .before .if1 .left)) in
+    (moved (w .held) (omega (arith, inside .0, w .held .from)) refl (omega (arith, l .ensures .near, w .held .large, l .kept .0)) (l .kept .0), c .before .before .before .before .before .before .before .before .before .before .before .before .before .before .before .before .before .before .before .before .before .before .before .before .before .before .pre .1)
 
 same-length-3 : tie.Need-same-length-3
 same-length-3 c = c .before .before .before .before .before .before .before .before .counted .kept .0 ∙ c .before .before .before .before .before .before .before .before .before .before .before .before .before .before .before .before .before .before .before .before .before .before .before .before .before .before .before .before .waited .kept .0
