@@ -63,14 +63,14 @@ steps c lost k inStep w a count pointer xs r out list out′ list′ e h =
 
 -- ---- rules 2 to 4
 
--- rule 5 is given the first k of the octets held, and the data from at on; out of step if no packet starts
-pub record Parts (inStep : Bool) (held : List ℕ) (pointer : ℕ) (xs out list : List ℕ) (k at : ℕ) (starts : Bool) : Type 0 where
+-- rule 5 is given the first k of the octets held, and the data from at on; out of step if no packet goes on or starts
+pub record Parts (inStep : Bool) (held : List ℕ) (pointer : ℕ) (xs out list : List ℕ) (k at : ℕ) (on : Bool) : Type 0 where
   pub front : k ≤ length held
   pub back : at ≤ length xs
   pub taken : Taken (take k held) (take (length xs - at) (drop at xs)) out list
   pub work : (a : ℕ)
       → follow a inStep (heldOf held) pointer xs
-      ≡ inStepIf starts (feed a (holding (heldOf (take k held)) []) (take (length xs - at) (drop at xs)))
+      ≡ inStepIf on (feed a (holding (heldOf (take k held)) []) (take (length xs - at) (drop at xs)))
 
 module _ (inStep : Bool) (held : List ℕ) (pointer : ℕ) (xs : List ℕ) where
   module _ (a : ℕ) where
@@ -107,10 +107,10 @@ module _ (inStep : Bool) (held : List ℕ) (pointer : ℕ) (xs : List ℕ) where
             lengths = refl;
           })
 
-      pub follows-taken : (k at : ℕ) (starts : Bool) (r : Followed) → Parts inStep held pointer xs out list k at starts
-          → Follows (answer count lost (inStepIf starts (feed a (holding (heldOf (take k held)) []) (take (length xs - at) (drop at xs))))) r out list out′ list′
+      pub follows-taken : (k at : ℕ) (on : Bool) (r : Followed) → Parts inStep held pointer xs out list k at on
+          → Follows (answer count lost (inStepIf on (feed a (holding (heldOf (take k held)) []) (take (length xs - at) (drop at xs))))) r out list out′ list′
           → Follows (answer count lost followed) r out list out′ list′
-      follows-taken k at starts r p h = subst (λ (w : Work). Follows (answer count lost w) r out list out′ list′) (sym (p .work a)) h
+      follows-taken k at on r p h = subst (λ (w : Work). Follows (answer count lost w) r out list out′ list′) (sym (p .work a)) h
 
   -- ---- what the calls ask
 
@@ -129,8 +129,8 @@ module _ (inStep : Bool) (held : List ℕ) (pointer : ℕ) (xs : List ℕ) where
         step-bounded 0 (record { last = none; inStep = inStep; held = heldOf held }) (record { count = 0; pointer = pointer; octets = xs })
         (f .sound) (f .heard .few) .packets
 
-    to-take : (starts : Bool) (h d : List ℕ) → Begun h d → followed 0 ≡ inStepIf starts (feed 0 (holding (heldOf h) []) d) → Taken h d out list
-    to-take starts h d b e = record {
+    to-take : (on : Bool) (h d : List ℕ) → Begun h d → followed 0 ≡ inStepIf on (feed 0 (holding (heldOf h) []) d) → Taken h d out list
+    to-take on h d b e = record {
       begun = b;
       most = subst (λ (l : List (List ℕ)). length l ≤ 16)
           (ap (λ (w : Work). bare (w .packets)) e ∙ ap (λ (x : Cut). x .packets) (cuts-on 0 (heldOf h) [] d (b .unfinished)))
@@ -139,31 +139,31 @@ module _ (inStep : Bool) (held : List ℕ) (pointer : ℕ) (xs : List ℕ) where
       entries = f .heard .entries;
     }
 
-    module _ (k at : ℕ) (starts : Bool) (n : pointer ≡ 254 → ⊥) where
+    module _ (k at : ℕ) (on : Bool) (n : pointer ≡ 254 → ⊥) where
       abbrev Given : Type 0
-      Given = Parts inStep held pointer xs out list k at starts
+      Given = Parts inStep held pointer xs out list k at on
 
       parts : (h d : List ℕ) → take k held ≡ h → drop at xs ≡ d → k ≤ length held → at ≤ length xs → Begun h d
-          → ((a : ℕ) → followed a ≡ inStepIf starts (feed a (holding (heldOf h) []) d)) → Given
+          → ((a : ℕ) → followed a ≡ inStepIf on (feed a (holding (heldOf h) []) d)) → Given
       parts h d eh ed front back b w =
           let e : take (length xs - at) (drop at xs) ≡ d = to-end xs at ∙ ed in
-          record { front = front; back = back; taken = rw (eh, e) (to-take starts h d b (w 0)); work = λ a. rw (eh, e) (w a) }
+          record { front = front; back = back; taken = rw (eh, e) (to-take on h d b (w 0)); work = λ a. rw (eh, e) (w a) }
 
-      pub parts-all : (inStep && fits held pointer xs) ≡ true → k ≡ length held → at ≡ 0 → starts ≡ true → Given
+      pub parts-all : (inStep && fits held pointer xs) ≡ true → k ≡ length held → at ≡ 0 → on ≡ true → Given
       parts-all e ek ea es =
           parts held xs (take-all k held (omega arith)) (ap (λ (i : ℕ). drop i xs) ea) (omega arith) (omega arith) to-fit
           (λ a. rw es (is-on a n e))
 
       module _ (e : (inStep && fits held pointer xs) ≡ false) (ek : k ≡ 0) where
         -- nothing held
-        from : (d : List ℕ) → drop at xs ≡ d → at ≤ length xs → ((a : ℕ) → followed a ≡ inStepIf starts (feed a (holding nothing []) d)) → Given
+        from : (d : List ℕ) → drop at xs ≡ d → at ≤ length xs → ((a : ℕ) → followed a ≡ inStepIf on (feed a (holding nothing []) d)) → Given
         from d ed back w =
             parts [] d (ap (λ (i : ℕ). take i held) ek) ed (omega arith) back
             (record { unfinished = empty-unfinished; short = omega arith; few = omega (arith, length-drop at xs, ap length ed, f .heard .few) }) w
 
-        pub parts-none : pointer ≡ 255 → at ≡ length xs → starts ≡ false → Given
+        pub parts-none : pointer ≡ 255 → at ≡ length xs → on ≡ false → Given
         parts-none p ea es = from [] (drop-of-length-le xs {i = at} (omega arith)) (omega arith) (λ a. rw es (is-skipped a n e p))
 
-        pub parts-entered : (pointer ≡ 255 → ⊥) → at ≡ pointer → starts ≡ true → Given
+        pub parts-entered : (pointer ≡ 255 → ⊥) → at ≡ pointer → on ≡ true → Given
         parts-entered p ea es =
             from (drop pointer xs) (ap (λ (i : ℕ). drop i xs) ea) (omega (arith, f .heard .points n p)) (λ a. rw es (is-entered a n e p))

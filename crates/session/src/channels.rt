@@ -153,42 +153,35 @@ fn follow(
     }
     let mut k = 0;
     let mut at = 0;
-    let mut starts = true;
+    let mut on = true;
     if instep & cutting::fits(held, data, pointer) {
         k = held.len();
     } else if pointer == 255 {
         at = data.len();
-        starts = false;
+        on = false;
     } else {
         at = pointer as usize;
     }
-    take(
-        count,
-        lost,
-        starts,
-        &held[..k],
-        &data[at..],
-        octets,
-        lengths,
-    )
+    take(count, lost, on, &held[..k], &data[at..], octets, lengths)
 }
 
-// Rule 5: packets taken one after another out of the held octets and the data, and the rest held; in step only if a packet starts.
+// Rule 5: packets taken one after another out of the held octets and the data, and the rest held; `on` if a packet goes on or starts
+// there, else out of step.
 fn take(
     count: ChannelCount,
     lost: u8,
-    starts: bool,
+    on: bool,
     held: &[u8],
     data: &[u8],
     octets: &mut [u8],
     lengths: &mut [u16],
 ) -> Followed
     requires { ⌜ Taken (now held) (now «data») (now octets) (now lengths) ⌝ }
-    ensures { λ r. ⌜ ((a : ℕ) → Follows (answer (count .0) lost (inStepIf starts (feed a (holding (heldOf (now (held .entry))) []) (now («data» .entry))))) r (now (octets .entry)) (now (lengths .entry)) (now (octets .exit)) (now (lengths .exit))) ⌝ }
+    ensures { λ r. ⌜ ((a : ℕ) → Follows (answer (count .0) lost (inStepIf on (feed a (holding (heldOf (now (held .entry))) []) (now («data» .entry))))) r (now (octets .entry)) (now (lengths .entry)) (now (octets .exit)) (now (lengths .exit))) ⌝ }
 {
     let cut = cutting::cut(held, data, lengths);
     cutting::hand_out(held, data, cut.octets, octets);
-    let channel = Channel::left(count, starts & cut.instep, held, data, cut.kept);
+    let channel = Channel::left(count, on & cut.instep, held, data, cut.kept);
     let packets = cut.packets as u8;
     Followed {
         channel,

@@ -34,19 +34,19 @@ tested : (i r s b : Bool) → r ≡ s → (i && r) ≡ b → (i && s) ≡ b
 tested i r s b e h = ap (λ (x : Bool). i && x) (sym e) ∙ h
 
 -- what rule 5 is given, whichever way it came
-given : (c : tie.Joined2) → Parts (c .before .before .before .before .before .before .before .args .instep) (c .before .before .before .before .before .before .before .args .held .now) (c .before .before .before .before .before .before .before .args .pointer) (c .before .before .before .before .before .before .before .args .«data» .now) (c .before .before .before .before .before .before .before .args .octets .now) (c .before .before .before .before .before .before .before .args .lengths .now) (c .if2 .k) (c .if2 .at) (c .if2 .starts)
+given : (c : tie.Joined2) → Parts (c .before .before .before .before .before .before .before .args .instep) (c .before .before .before .before .before .before .before .args .held .now) (c .before .before .before .before .before .before .before .args .pointer) (c .before .before .before .before .before .before .before .args .«data» .now) (c .before .before .before .before .before .before .before .args .octets .now) (c .before .before .before .before .before .before .before .args .lengths .now) (c .if2 .k) (c .if2 .at) (c .if2 .on)
 given c =
     let s = c .before .before .before .before .before .before .before in
     let a = s .args in
     let t = c .before .fits2 in
     let n = c .before .before .if1 .left in
     ⊎-elim
-    (λ w. parts-all (a .instep) (a .held .now) (a .pointer) (a .«data» .now) (a .octets .now) (a .lengths .now) (s .pre) (c .if2 .k) (c .if2 .at) (c .if2 .starts) n
+    (λ w. parts-all (a .instep) (a .held .now) (a .pointer) (a .«data» .now) (a .octets .now) (a .lengths .now) (s .pre) (c .if2 .k) (c .if2 .at) (c .if2 .on) n
     (tested (a .instep) (t .result) _ true (t .ensures) (w .0 .taken)) (w .1) (w .2) (w .3))
     (⊎-elim
-    (λ w. parts-none (a .instep) (a .held .now) (a .pointer) (a .«data» .now) (a .octets .now) (a .lengths .now) (s .pre) (c .if2 .k) (c .if2 .at) (c .if2 .starts) n
+    (λ w. parts-none (a .instep) (a .held .now) (a .pointer) (a .«data» .now) (a .octets .now) (a .lengths .now) (s .pre) (c .if2 .k) (c .if2 .at) (c .if2 .on) n
     (tested (a .instep) (t .result) _ false (t .ensures) (w .0 .left)) (w .2) (w .1 .taken) (w .3) (w .4))
-    (λ w. parts-entered (a .instep) (a .held .now) (a .pointer) (a .«data» .now) (a .octets .now) (a .lengths .now) (s .pre) (c .if2 .k) (c .if2 .at) (c .if2 .starts) n
+    (λ w. parts-entered (a .instep) (a .held .now) (a .pointer) (a .«data» .now) (a .octets .now) (a .lengths .now) (s .pre) (c .if2 .k) (c .if2 .at) (c .if2 .on) n
     (tested (a .instep) (t .result) _ false (t .ensures) (w .0 .left)) (w .2) (w .1 .left) (w .3) (w .4)))
     (c .if2 .came)
 
@@ -56,7 +56,7 @@ returns-2 c n =
     let j = c .before .before .before .before .before .before .before .before .before .before in
     let a = j .before .before .before .before .before .before .before .args in
     follows-taken (a .instep) (a .held .now) (a .pointer) (a .«data» .now) n (a .count .0) (a .lost) (a .octets .now) (a .lengths .now) (t .last .1 .1 .1 .1 .1 .0) (t .last .1 .1 .1 .1 .1 .1 .0)
-    (j .if2 .k) (j .if2 .at) (j .if2 .starts) (t .result) (given j) (t .ensures n)
+    (j .if2 .k) (j .if2 .at) (j .if2 .on) (t .result) (given j) (t .ensures n)
 
 pub follow-spec : {M : Type 1} → statement M
 follow-spec =
