@@ -1,10 +1,10 @@
 -- The corners, by computing.
 use mathlib.Core.Path.{refl}
-use Rattle.rules.specs.Channel.{status, push, placeAfter, lengthHolds, enter, follow, lostSince, step}
+use Rattle.rules.specs.Channel.{standing, push, placeAfter, lengthHolds, enter, follow, lostSince, step}
 use Rattle.delivery.specs.Corners.{Corners}
 
 pub corners : Corners
-unfolding status push placeAfter lengthHolds enter follow lostSince step
+unfolding standing push placeAfter lengthHolds enter follow lostSince step
 corners = record {
   gap-right = record { handed-out = refl; losses-told = refl };
   gap-packets = refl;

@@ -11,7 +11,7 @@ use borrow.Author.Tests.{lt-ltb, le-ltb, le-leb, eq-eqb, ne-eqb}
 use Rattle.octets.specs.Numbers.{at}
 use Rattle.rules.specs.Channel.{placeAfter, lengthHolds, lengthIn, fits, pointerTo}
 use Rattle.rules.specs.Packets.{Good, joined}
-use Rattle.rules.proofs.Status.{Order, upTo, past, order, says}
+use Rattle.rules.proofs.Standing.{Order, upTo, past, order, says}
 use Rattle.delivery.specs.Expected.{Fate, isGot, allGot, nowhere, carries}
 use Rattle.delivery.proofs.Sending.{nextPiece}
 

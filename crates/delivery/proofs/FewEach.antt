@@ -13,7 +13,7 @@ use Rattle.answer.specs.Told.{Told, accept, refuse}
 use Rattle.answer.specs.Refusals as no
 use Rattle.frame.specs.declared.Frame.{Frame}
 use Rattle.frame.specs.Frame.{readFrame, readWhole, dataOf}
-use Rattle.frame.specs.Statements.{Accepted}
+use Rattle.frame.specs.Back.{Accepted}
 use Rattle.frame.proofs.Accepts.{accepts}
 use Rattle.rules.specs.Channel as rules
 use Rattle.rules.specs.Packets.{bare, joined}

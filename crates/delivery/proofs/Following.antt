@@ -11,7 +11,7 @@ use lib.Dec.{eqb}
 use borrow.Author.Tests.{ne-eqb}
 use Rattle.rules.specs.Channel.{Piece, Held, nothing, Work, feed, holding, outOfStep, follow, enter, fits, pointerTo}
 use Rattle.rules.specs.Packets.{AllGood, joined}
-use Rattle.rules.proofs.Status.{Order, upTo, past, order}
+use Rattle.rules.proofs.Standing.{Order, upTo, past, order}
 use Rattle.delivery.proofs.Sending.{restAfter, packetsAfter}
 use Rattle.delivery.specs.Expected.{Fate, lost, got, isGot, arrivalOf, allGot, arrived, nowhere}
 use Rattle.delivery.proofs.Facts.{got-step, drop-get, drop-lt, fits-between, fits-held, not-raw, pointer-none, pointer-some}

@@ -5,11 +5,11 @@ use mathlib.Core.Bool.{true, false}
 use Prim.Native.Nat.{ℕ, zero, suc, _+_, _≤_, _<_}
 use native.Mathlib.Omega.{arith}
 use lib.ListN.{length, getD, take, drop, length-append, replicate}
-use Rattle.rules.specs.Channel.{Held, nothing, grown, Handed, given, unfinished, whole, status, push, feed, holding}
+use Rattle.rules.specs.Channel.{Held, nothing, grown, Handed, given, unfinished, whole, standing, push, feed, holding}
 use Rattle.rules.specs.Packets.{Good, AllGood, joined}
 use Rattle.delivery.proofs.Sending.{restAfter, packetsAfter}
 use Rattle.delivery.specs.Expected.{Fate, arrivalOf, arrived, nowhere, expectedFrom}
-use Rattle.rules.proofs.Status.{status-whole, status-unfinished}
+use Rattle.rules.proofs.Standing.{standing-whole, standing-unfinished}
 use Rattle.delivery.proofs.Walk.{walk, begin}
 
 -- The packet p, begun in frame i, in which h is sent and r is not: `ok` says that its frames arrived so far.
@@ -49,7 +49,7 @@ module _ (ss : List Fate) (k a : ℕ) (arr : arrivalOf (getD ss k nowhere) ≡ a
   take-more n rec h x y r ps acc i p gs e g l ok =
       let h′ : List ℕ = h .octets ++ x ∷ [] in
       let e′ : h′ ++ y ∷ r ≡ p = append-assoc (h .octets) (x ∷ []) (y ∷ r) ∙ e in
-      let st : status h′ ≡ unfinished = status-unfinished h′ (y ∷ r) p e′ g (omega arith) in
+      let st : standing h′ ≡ unfinished = standing-unfinished h′ (y ∷ r) p e′ g (omega arith) in
       let len : length h′ ≡ length (h .octets) + 1 = length-append (h .octets) (x ∷ []) in
       let t : Taken n (grown h x) (y ∷ r) ps acc i p = rec (grown h x) (y ∷ r) ps acc i p gs (record { all = e′; some = omega arith; good = g; begun = l; arrives = ok }) in
       record {
@@ -70,7 +70,7 @@ module _ (ss : List Fate) (k a : ℕ) (arr : arrivalOf (getD ss k nowhere) ≡ a
   take-last n rec h x ps acc i p gs e g l ok =
       let h′ : List ℕ = h .octets ++ x ∷ [] in
       let g′ : Handed = given a (grown h x) in
-      let st : status h′ ≡ whole = status-whole h′ [] p (append-nil h′ ∙ e) g refl in
+      let st : standing h′ ≡ whole = standing-whole h′ [] p (append-nil h′ ∙ e) g refl in
       let t : Taken n nothing [] ps (acc ++ g′ ∷ []) i p = rec nothing [] ps (acc ++ g′ ∷ []) i p gs refl in
       let is : _≡_ {A = Handed} (record { arrival = a; packet = p }) g′ = rw (← e) in
       record {

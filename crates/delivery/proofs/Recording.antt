@@ -10,7 +10,7 @@ use borrow.Author.Tests.{le-ltb, ne-eqb}
 use Rattle.octets.specs.Pick.{pick}
 use Rattle.octets.proofs.Choices.{passed}
 use Rattle.frame.specs.Frame.{readFrame}
-use Rattle.frame.specs.Statements.{ReadBack}
+use Rattle.frame.specs.Back.{ReadBack}
 use Rattle.frame.proofs.ReadsBack.{reads-back}
 use Rattle.frame.proofs.Accepts.{accepts}
 use Rattle.rules.specs.Channel as rules

@@ -5,7 +5,7 @@ use Prim.Native.Nat.{ℕ}
 use native.Mathlib.Omega.{arith}
 use lib.ListN.{length, getD}
 use lib.Dec.{lit≤}
-use Rattle.rules.specs.Channel.{Handed, status, push, placeAfter, lengthHolds, enter, follow, lostSince, step}
+use Rattle.rules.specs.Channel.{Handed, standing, push, placeAfter, lengthHolds, enter, follow, lostSince, step}
 use Rattle.rules.specs.BothSides.{out}
 use Rattle.delivery.specs.Expected.{Loss}
 use Rattle.delivery.specs.Shams.{Shams}
@@ -15,7 +15,7 @@ abbrev second : List Handed → Handed
 second ps = getD ps 1 (out 0 [])
 
 pub shams : Shams
-unfolding status push placeAfter lengthHolds enter follow lostSince step
+unfolding standing push placeAfter lengthHolds enter follow lostSince step
 shams = record {
   refuses-all = ((lit≤ tt, (lit≤ tt, tt)), λ d. let z : _≡_ {A = ℕ} 0 2 = ap length (d .handed-out) in omega arith);
   joins-at-first = ((lit≤ tt, (lit≤ tt, tt)), λ d. let z : _≡_ {A = ℕ} 1 2 = ap length (d .handed-out) in omega arith);

@@ -7,7 +7,7 @@ use lib.ListN.{length}
 use lib.Dec.{lit≤, lit<}
 use Rattle.octets.specs.Pick.{pick}
 use Rattle.frame.specs.Frame.{pointerWrong}
-use Rattle.frame.specs.Writer.{fieldsWrong}
+use Rattle.frame.specs.Write.{fieldsWrong}
 use Rattle.rules.specs.Packets.{Good}
 use Rattle.rules.specs.BothSides.{packetOf}
 use Rattle.session.specs.declared.Opened.{Opened}

@@ -8,7 +8,7 @@ use Rattle.octets.specs.Parts.{written}
 use Rattle.answer.specs.declared.Written.{Written}
 use Rattle.answer.specs.declared.Written.the-variants.{Length}
 use Rattle.answer.proofs.Writer.{wrote, one-written}
-use Rattle.frame.specs.Writer.{fieldsWrong}
+use Rattle.frame.specs.Write.{fieldsWrong}
 use Rattle.delivery.specs.Sender.{sentOctets, WriterGives}
 
 pub writer-gives : WriterGives

@@ -9,7 +9,7 @@ use Rattle.answer.specs.declared.Written.{Written}
 use Rattle.answer.specs.declared.Written.the-variants.{Length}
 use Rattle.answer.specs.Writer.{Wrote}
 use Rattle.frame.specs.declared.Frame.{Frame}
-use Rattle.frame.specs.Writer.{fieldsWrong, frameOctets}
+use Rattle.frame.specs.Write.{fieldsWrong, frameOctets}
 use Rattle.rules.specs.Channel.{Piece}
 use Rattle.rules.specs.Packets.{AllGood}
 use Rattle.delivery.specs.Stream.{Choice, nextCount, framesBy}

@@ -17,7 +17,7 @@ use Rattle.answer.proofs.Told.{same-fields, refuse-or-accept}
 use Rattle.crc.specs.Check.{frameCheck}
 use Rattle.frame.specs.Address.{addressWrong}
 use Rattle.frame.specs.Frame.{lengthWrong, checkWrong, headWrong, versionWrong, flagOf, statusWrong, pointerWrong, dataLength, statusOf, frameOf, readWhole, readFrame}
-use Rattle.frame.specs.Statements.{PointerRight, Accepted, Accepts}
+use Rattle.frame.specs.Back.{PointerRight, Accepted, Accepts}
 use Rattle.frame.specs.declared.Frame.{Frame}
 
 -- what each test that was passed says

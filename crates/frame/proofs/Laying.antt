@@ -17,7 +17,7 @@ use Rattle.crc.specs.Check.Order.{lowFirst}
 use Rattle.frame.specs.Address.{sign, space, breaks, callsignWrong, addressOctets}
 use Rattle.frame.specs.Asked.{Fits, Room}
 use Rattle.frame.specs.Frame.{flagOf, pointerWrong}
-use Rattle.frame.specs.Writer.{fieldsWrong, headOf, front, statusOctet, body, sealed, frameOctets}
+use Rattle.frame.specs.Write.{fieldsWrong, headOf, front, statusOctet, body, sealed, frameOctets}
 use Rattle.frame.specs.declared.Address.{Address}
 use Rattle.frame.specs.declared.Frame.{Frame}
 

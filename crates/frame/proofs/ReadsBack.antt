@@ -16,8 +16,8 @@ use Rattle.crc.specs.Check.Order.{lowFirst}
 use Rattle.crc.proofs.Ends.{found}
 use Rattle.frame.specs.Address.{addressOf}
 use Rattle.frame.specs.Frame.{lengthWrong, checkWrong, headWrong, versionWrong, flagOf, statusWrong, pointerWrong, dataLength, statusOf, frameOf, dataOf, timeOf, readWhole, readFrame}
-use Rattle.frame.specs.Statements.{ReadsBack}
-use Rattle.frame.specs.Writer.{fieldsWrong, front, statusOctet, body, sealed, frameOctets}
+use Rattle.frame.specs.Back.{ReadsBack}
+use Rattle.frame.specs.Write.{fieldsWrong, front, statusOctet, body, sealed, frameOctets}
 use Rattle.frame.specs.declared.Frame.{Frame}
 use Rattle.frame.proofs.AddressTrip.{octets-right, octets-back}
 use Rattle.frame.proofs.Laying.{InRange, in-range, length-octets, flag-low}

@@ -16,8 +16,8 @@ use Rattle.crc.specs.Check.Order.{lowFirst}
 use Rattle.crc.proofs.Ends.{accepted}
 use Rattle.frame.specs.Address.{addressOf, addressOctets}
 use Rattle.frame.specs.Frame.{flagOf, dataLength, statusOf, frameOf, dataOf, timeOf}
-use Rattle.frame.specs.Statements.{WrittenBack, WritesBack}
-use Rattle.frame.specs.Writer.{fieldsWrong, headOf, front, statusOctet, body, sealed, frameOctets}
+use Rattle.frame.specs.Back.{WrittenBack, WritesBack}
+use Rattle.frame.specs.Write.{fieldsWrong, headOf, front, statusOctet, body, sealed, frameOctets}
 use Rattle.frame.specs.declared.Frame.{Frame}
 use Rattle.frame.proofs.Accepts.{Passed, passed}
 use Rattle.frame.proofs.AddressTrip.{octets-of, callsign-right}

@@ -1,5 +1,5 @@
 pub mod Address
-pub mod Asked
 pub mod Frame
-pub mod Statements
-pub mod Writer
+pub mod Write
+pub mod Back
+pub mod Asked

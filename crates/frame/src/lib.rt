@@ -3,7 +3,7 @@ ghost use mathlib.Core.Path.{_≡_};
 ghost use lib.ListN.{length};
 ghost use Rattle.answer.specs.Writer.{Wrote};
 ghost use Rattle.frame.specs.Frame.{told, readFrame, dataOf, timeOf};
-ghost use Rattle.frame.specs.Writer.{fieldsWrong, frameOctets};
+ghost use Rattle.frame.specs.Write.{fieldsWrong, frameOctets};
 use answer::Written;
 use counts::ChannelCount;
 use counts::MasterCount;

@@ -6,7 +6,7 @@ ghost use Rattle.octets.specs.Parts.{put, written};
 ghost use Rattle.crc.specs.Check.{frameCheck, octetsOf};
 ghost use Rattle.crc.specs.Check.Order.{lowFirst};
 ghost use Rattle.frame.specs.Asked.{FrontRoom, Room};
-ghost use Rattle.frame.specs.Writer.{fieldsWrong, headOf, front, statusOctet, frameOctets};
+ghost use Rattle.frame.specs.Write.{fieldsWrong, headOf, front, statusOctet, frameOctets};
 use super::Frame;
 use super::addresses;
 use super::reading;

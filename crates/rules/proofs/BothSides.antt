@@ -1,11 +1,11 @@
 -- The worked cases, by computing.
 use mathlib.Core.Path.{refl}
-use Rattle.rules.specs.Channel.{status, push, placeAfter, lengthHolds, enter, follow, lostSince, step}
+use Rattle.rules.specs.Channel.{standing, push, placeAfter, lengthHolds, enter, follow, lostSince, step}
 use Rattle.rules.specs.Bounds.{heldWrong}
 use Rattle.rules.specs.BothSides.{BothSides}
 
 pub both-sides : BothSides
-unfolding status push placeAfter lengthHolds enter follow lostSince step heldWrong
+unfolding standing push placeAfter lengthHolds enter follow lostSince step heldWrong
 both-sides = record {
   split = refl;
   gap = refl;

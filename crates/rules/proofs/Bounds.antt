@@ -9,19 +9,19 @@ use lib.ListN.{length, take, drop, length-append, length-take, length-drop, take
 use lib.Dec.{ltb, leb, eqb}
 use borrow.Author.Tests.{le-ltb, le-leb, lt-leb, ltb-false, leb-true, leb-false, not-false}
 use Rattle.octets.proofs.Tests.{or-left, or-right, and-true-left, and-true-right}
-use Rattle.rules.specs.Channel.{Held, nothing, grown, Handed, given, Status, unfinished, whole, wrong, status, allowed, lengthIn, Work, outOfStep, holding, settle, push, feed, fits, enter, follow, lostSince, afterLoss, step}
+use Rattle.rules.specs.Channel.{Held, nothing, grown, Handed, given, Standing, unfinished, whole, wrong, standing, allowed, lengthIn, Work, outOfStep, holding, settle, push, feed, fits, enter, follow, lostSince, afterLoss, step}
 use Rattle.rules.specs.Packets.{Good, AllGood, joined, bare}
 use Rattle.rules.specs.Bounds.{heldWrong, Sound, PassingSound, SoundPassing, FreshSound, StepBounded}
-use Rattle.rules.proofs.Status.{Order, upTo, past, order, View, short, more, done, bad, view, not-whole, not-wrong, length-said, status-short, status-part, empty-unfinished, whole-good}
+use Rattle.rules.proofs.Standing.{Order, upTo, past, order, View, short, more, done, bad, view, not-whole, not-wrong, length-said, standing-short, standing-part, empty-unfinished, whole-good}
 
 -- ---- sound channels
 
 pub fresh-sound : FreshSound
 fresh-sound = refl
 
-pub sound-status : (b : Bool) (h : List ℕ) → Sound b h → status h ≡ unfinished
-sound-status true h s = s
-sound-status false h s = rw s empty-unfinished
+pub sound-standing : (b : Bool) (h : List ℕ) → Sound b h → standing h ≡ unfinished
+sound-standing true h s = s
+sound-standing false h s = rw s empty-unfinished
 
 pub sound-held : (b : Bool) (h : List ℕ) → Sound b h → length h ≤ 250
 sound-held b h s = go (view h)
@@ -29,8 +29,8 @@ sound-held b h s = go (view h)
     go : View h → length h ≤ 250
     go (short a e) = omega arith
     go (more a b c d e) = omega arith
-    go (done a b′ c d e) = not-whole (sound-status b h s) e
-    go (bad a n e) = not-wrong (sound-status b h s) e
+    go (done a b′ c d e) = not-whole (sound-standing b h s) e
+    go (bad a n e) = not-wrong (sound-standing b h s) e
 
 held-out : (b : Bool) (h : List ℕ) → Sound b h → (not b && ltb 0 (length h)) ≡ false
 held-out true h s = refl
@@ -53,31 +53,31 @@ sound-passing b h r s = go (view h)
           le-leb (lengthIn h) 251 d,
           lt-leb (lengthIn h) (length h) f,
         )
-    go (done a c d f e) = not-whole (sound-status b h s) e
-    go (bad a n e) = not-wrong (sound-status b h s) e
+    go (done a c d f e) = not-whole (sound-standing b h s) e
+    go (bad a n e) = not-wrong (sound-standing b h s) e
 
 none-held : (n : ℕ) (h : List ℕ) → ltb 0 n ≡ false → take n h ≡ []
 none-held zero h e = refl
 none-held (suc n) h e = absurd (omega (arith, ltb-false 0 (suc n) e))
 
-part-unfinished : (n : ℕ) (h : List ℕ) → 16 ≤ lengthIn h → lengthIn h ≤ 251 → n < lengthIn h → status (take n h) ≡ unfinished
+part-unfinished : (n : ℕ) (h : List ℕ) → 16 ≤ lengthIn h → lengthIn h ≤ 251 → n < lengthIn h → standing (take n h) ≡ unfinished
 part-unfinished n h k l m = go (order 6 (length (take n h)))
   where
-    go : Order 6 (length (take n h)) → status (take n h) ≡ unfinished
-    go (past q t) = status-short (take n h) q
+    go : Order 6 (length (take n h)) → standing (take n h) ≡ unfinished
+    go (past q t) = standing-short (take n h) q
     go (upTo q t) =
         let same : lengthIn (take n h) ≡ lengthIn h = length-said (take n h) (drop n h) h (take-append-drop n h) q in
         let few : length (take n h) ≤ n = simp length-take (omega arith) in
-        status-part (take n h) (omega arith) (omega arith) (omega arith)
+        standing-part (take n h) (omega arith) (omega arith) (omega arith)
 
-length-passes : (n : ℕ) (h : List ℕ) → (leb 6 n && (not (allowed (lengthIn h)) || leb (lengthIn h) n)) ≡ false → status (take n h) ≡ unfinished
+length-passes : (n : ℕ) (h : List ℕ) → (leb 6 n && (not (allowed (lengthIn h)) || leb (lengthIn h) n)) ≡ false → standing (take n h) ≡ unfinished
 length-passes n h e = go (order 6 n)
   where
     few : length (take n h) ≤ n
     few = simp length-take (omega arith)
 
-    go : Order 6 n → status (take n h) ≡ unfinished
-    go (past l t) = status-short (take n h) (omega (arith, few))
+    go : Order 6 n → standing (take n h) ≡ unfinished
+    go (past l t) = standing-short (take n h) (omega (arith, few))
     go (upTo l t) =
         let rest : (not (allowed (lengthIn h)) || leb (lengthIn h) n) ≡ false = rw t at e in
         let size : allowed (lengthIn h) ≡ true = not-false (allowed (lengthIn h)) (or-left (not (allowed (lengthIn h))) (leb (lengthIn h) n) rest) in
@@ -138,12 +138,12 @@ push-room a k m false h ps x r = record {
   octets = omega (arith, r .octets);
   few = rw (r .sound) (few-less m (bare ps) (h .octets) (r .few));
 }
-push-room a k m true h ps x r = go (status (h .octets ++ x ∷ [])) refl
+push-room a k m true h ps x r = go (standing (h .octets ++ x ∷ [])) refl
   where
     len : length (h .octets ++ x ∷ []) ≡ length (h .octets) + 1
     len = length-append (h .octets) (x ∷ [])
 
-    go : (st : Status) → status (h .octets ++ x ∷ []) ≡ st → Room k (suc m) (settle a st (grown h x) ps)
+    go : (st : Standing) → standing (h .octets ++ x ∷ []) ≡ st → Room k (suc m) (settle a st (grown h x) ps)
     go unfinished e = record { sound = e; good = r .good; octets = omega (arith, len, r .octets); few = few-more m (bare ps) (h .octets) x (r .few) }
     go wrong e = record { sound = refl; good = r .good; octets = omega (arith, r .octets); few = few-less m (bare ps) (h .octets) (r .few) }
     go whole e =
@@ -186,7 +186,7 @@ either : (k m : ℕ) (c : Bool) (x y : Work) → Room k m x → Room k m y → R
 either k m true x y r t = r
 either k m false x y r t = t
 
-fed-room : (a k m : ℕ) (h : Held) (xs : List ℕ) → status (h .octets) ≡ unfinished → length (h .octets) ≤ k → length xs ≤ m
+fed-room : (a k m : ℕ) (h : Held) (xs : List ℕ) → standing (h .octets) ≡ unfinished → length (h .octets) ≤ k → length xs ≤ m
     → Room k m (feed a (holding h []) xs)
 fed-room a k m h xs s p q =
     weaken (length (h .octets)) (0 + length xs) k m (feed a (holding h []) xs) p (omega arith)
@@ -202,7 +202,7 @@ follow-room a b h pointer xs s =
     let n : ℕ = length (h .octets) in
     either n (length xs) (eqb pointer 254) _ _ (record { sound = s; good = tt; octets = omega arith; few = tt })
     (either n (length xs) (b && fits (h .octets) pointer xs) _ _
-    (fed-room a n (length xs) h xs (sound-status b (h .octets) s) (omega arith) (omega arith))
+    (fed-room a n (length xs) h xs (sound-standing b (h .octets) s) (omega arith) (omega arith))
     (either n (length xs) (eqb pointer 255) _ _
     (out-room n (length xs))
     (fed-room a n (length xs) nothing (drop pointer xs) empty-unfinished (omega arith) (omega (arith, length-drop pointer xs)))))

@@ -6,15 +6,15 @@ use Prim.Native.Nat.{ℕ, _+_, _≤_}
 use native.Mathlib.Omega.{arith}
 use lib.ListN.{length, take, drop, length-append, take-append-drop}
 use lib.Seq.{length-take-le}
-use Rattle.rules.specs.Channel.{Held, nothing, grown, Handed, given, Status, unfinished, whole, wrong, status, lengthIn, Work, outOfStep, holding, settle, push, feed}
+use Rattle.rules.specs.Channel.{Held, nothing, grown, Handed, given, Standing, unfinished, whole, wrong, standing, lengthIn, Work, outOfStep, holding, settle, push, feed}
 use Rattle.rules.specs.Packets.{Good, bare}
 use Rattle.rules.specs.Cutting.{Cut, cutBy, cutOf, behind, CutsOn, CutsUnfinished, CutsWrong, CutsWhole}
-use Rattle.rules.proofs.Status.{View, short, more, done, bad, view, not-whole, not-wrong, not-both, length-said, status-whole, status-unfinished, empty-unfinished}
+use Rattle.rules.proofs.Standing.{View, short, more, done, bad, view, not-whole, not-wrong, not-both, length-said, standing-whole, standing-unfinished, empty-unfinished}
 use Rattle.rules.proofs.Bounds.{bare-append}
 
 -- ---- arrival numbers do not matter, and what was handed out before stays in front
 
-settled : (a b : ℕ) (st : Status) (h k : Held) (ps rs : List Handed) (qs : List (List ℕ)) → h .octets ≡ k .octets → bare ps ≡ qs ++ bare rs
+settled : (a b : ℕ) (st : Standing) (h k : Held) (ps rs : List Handed) (qs : List (List ℕ)) → h .octets ≡ k .octets → bare ps ≡ qs ++ bare rs
     → cutBy (settle a st h ps) ≡ behind qs (cutBy (settle b st k rs))
 settled a b unfinished h k ps rs qs e p = rw (e, p)
 settled a b wrong h k ps rs qs e p = rw p
@@ -26,8 +26,8 @@ pushed : (a b : ℕ) (s t : Bool) (h k : Held) (ps rs : List Handed) (qs : List 
 unfolding push
 pushed a b false false h k ps rs qs x i e p = rw (e, p)
 pushed a b true true h k ps rs qs x i e p =
-    ap (λ (l : List ℕ). cutBy (settle a (status (l ++ x ∷ [])) (grown h x) ps)) e
-    ∙ settled a b (status (k .octets ++ x ∷ [])) (grown h x) (grown k x) ps rs qs (rw e) p
+    ap (λ (l : List ℕ). cutBy (settle a (standing (l ++ x ∷ [])) (grown h x) ps)) e
+    ∙ settled a b (standing (k .octets ++ x ∷ [])) (grown h x) (grown k x) ps rs qs (rw e) p
 pushed a b true false h k ps rs qs x i e p = absurd (true≢false i)
 pushed a b false true h k ps rs qs x i e p = absurd (false≢true i)
 
@@ -51,26 +51,26 @@ feed-out a ps (x ∷ xs) = feed-out a ps xs
 -- ---- one octet more
 
 module _ (a : ℕ) (h : Held) (ps : List Handed) (x : ℕ) where
-  push-on : status (h .octets ++ x ∷ []) ≡ unfinished → push a (holding h ps) x ≡ holding (grown h x) ps
+  push-on : standing (h .octets ++ x ∷ []) ≡ unfinished → push a (holding h ps) x ≡ holding (grown h x) ps
   unfolding push
   push-on e = rw e
 
-  push-done : status (h .octets ++ x ∷ []) ≡ whole → push a (holding h ps) x ≡ holding nothing (ps ++ given a (grown h x) ∷ [])
+  push-done : standing (h .octets ++ x ∷ []) ≡ whole → push a (holding h ps) x ≡ holding nothing (ps ++ given a (grown h x) ∷ [])
   unfolding push
   push-done e = rw e
 
-  push-bad : status (h .octets ++ x ∷ []) ≡ wrong → push a (holding h ps) x ≡ outOfStep ps
+  push-bad : standing (h .octets ++ x ∷ []) ≡ wrong → push a (holding h ps) x ≡ outOfStep ps
   unfolding push
   push-bad e = rw e
 
 -- what begins an unfinished packet is unfinished
-unfinished-front : (h r : List ℕ) → status (h ++ r) ≡ unfinished → status h ≡ unfinished
+unfinished-front : (h r : List ℕ) → standing (h ++ r) ≡ unfinished → standing h ≡ unfinished
 unfinished-front h r u = go (view h) (view (h ++ r))
   where
     len : length (h ++ r) ≡ length h + length r
     len = length-append h r
 
-    go : View h → View (h ++ r) → status h ≡ unfinished
+    go : View h → View (h ++ r) → standing h ≡ unfinished
     go (short a e) v = e
     go (more a b c d e) v = e
     go (done a b c d e) (short a′ e′) = absurd (omega (arith, len))
@@ -85,13 +85,13 @@ unfinished-front h r u = go (view h) (view (h ++ r))
     go (bad a n e) (bad a′ n′ e′) = not-wrong u e′
 
 -- and six octets of a wrong one are wrong
-wrong-front : (h r : List ℕ) → 6 ≤ length h → status (h ++ r) ≡ wrong → status h ≡ wrong
+wrong-front : (h r : List ℕ) → 6 ≤ length h → standing (h ++ r) ≡ wrong → standing h ≡ wrong
 wrong-front h r k w = go (view h) (view (h ++ r))
   where
     same : lengthIn h ≡ lengthIn (h ++ r)
     same = length-said h r (h ++ r) refl k
 
-    go : View h → View (h ++ r) → status h ≡ wrong
+    go : View h → View (h ++ r) → standing h ≡ wrong
     go v (short a e) = not-wrong e w
     go v (more a b c d e) = not-wrong e w
     go v (done a b c d e) = not-both w e
@@ -106,7 +106,7 @@ pub record Whole (s : List ℕ) : Type 0 where
   pub greatest : lengthIn s ≤ 251
   pub there : lengthIn s ≤ length s
 
-pub whole-size : (s : List ℕ) → status s ≡ whole → Whole s
+pub whole-size : (s : List ℕ) → standing s ≡ whole → Whole s
 whole-size s w = go (view s)
   where
     go : View s → Whole s
@@ -116,43 +116,43 @@ whole-size s w = go (view s)
     go (bad a n e) = not-both e w
 
 -- an unfinished packet is held
-pub feed-grow : (a : ℕ) (h : Held) (r : List ℕ) (ps : List Handed) → status (h .octets ++ r) ≡ unfinished
+pub feed-grow : (a : ℕ) (h : Held) (r : List ℕ) (ps : List Handed) → standing (h .octets ++ r) ≡ unfinished
     → cutBy (feed a (holding h ps) r) ≡ record { inStep = true; held = h .octets ++ r; packets = bare ps }
 feed-grow a h [] ps u = rw append-nil
 feed-grow a h (x ∷ r) ps u =
     let e : (h .octets ++ x ∷ []) ++ r ≡ h .octets ++ x ∷ r = append-assoc (h .octets) (x ∷ []) r in
-    let v : status ((h .octets ++ x ∷ []) ++ r) ≡ unfinished = rw e u in
+    let v : standing ((h .octets ++ x ∷ []) ++ r) ≡ unfinished = rw e u in
     ap (λ (w : Work). cutBy (feed a w r)) (push-on a h ps x (unfinished-front (h .octets ++ x ∷ []) r v))
     ∙ feed-grow a (grown h x) r ps v
     ∙ rw e
 
 -- a wrong length drops the rest
-wrong-case : (a : ℕ) (h : Held) (x : ℕ) (r : List ℕ) (ps : List Handed) → status ((h .octets ++ x ∷ []) ++ r) ≡ wrong
-    → (st : Status) → status (h .octets ++ x ∷ []) ≡ st
-    → (status (h .octets ++ x ∷ []) ≡ unfinished → feed a (holding (grown h x) ps) r ≡ outOfStep ps)
+wrong-case : (a : ℕ) (h : Held) (x : ℕ) (r : List ℕ) (ps : List Handed) → standing ((h .octets ++ x ∷ []) ++ r) ≡ wrong
+    → (st : Standing) → standing (h .octets ++ x ∷ []) ≡ st
+    → (standing (h .octets ++ x ∷ []) ≡ unfinished → feed a (holding (grown h x) ps) r ≡ outOfStep ps)
     → feed a (push a (holding h ps) x) r ≡ outOfStep ps
 wrong-case a h x r ps v unfinished q rec = rw (push-on a h ps x q) (rec q)
 wrong-case a h x r ps v wrong q rec = rw (push-bad a h ps x q) (feed-out a ps r)
 wrong-case a h x r ps v whole q rec = not-both (wrong-front (h .octets ++ x ∷ []) r (whole-size (h .octets ++ x ∷ []) q .six) v) q
 
-feed-wrong : (a : ℕ) (h : Held) (r : List ℕ) (ps : List Handed) → status (h .octets) ≡ unfinished → status (h .octets ++ r) ≡ wrong
+feed-wrong : (a : ℕ) (h : Held) (r : List ℕ) (ps : List Handed) → standing (h .octets) ≡ unfinished → standing (h .octets ++ r) ≡ wrong
     → feed a (holding h ps) r ≡ outOfStep ps
 feed-wrong a h [] ps u w = not-wrong u (rw (← append-nil (h .octets)) w)
 feed-wrong a h (x ∷ r) ps u w =
-    let v : status ((h .octets ++ x ∷ []) ++ r) ≡ wrong = rw append-assoc w in
-    wrong-case a h x r ps v (status (h .octets ++ x ∷ [])) refl (λ q. feed-wrong a (grown h x) r ps q v)
+    let v : standing ((h .octets ++ x ∷ []) ++ r) ≡ wrong = rw append-assoc w in
+    wrong-case a h x r ps v (standing (h .octets ++ x ∷ [])) refl (λ q. feed-wrong a (grown h x) r ps q v)
 
 -- a whole packet is handed out
 pub feed-whole : (a : ℕ) (h : Held) (x : ℕ) (r : List ℕ) (ps : List Handed) → Good (h .octets ++ x ∷ r)
     → cutBy (feed a (holding h ps) (x ∷ r)) ≡ record { inStep = true; held = []; packets = bare ps ++ (h .octets ++ x ∷ r) ∷ [] }
 feed-whole a h x [] ps g =
-    ap cutBy (push-done a h ps x (status-whole (h .octets ++ x ∷ []) [] (h .octets ++ x ∷ []) (append-nil (h .octets ++ x ∷ [])) g refl))
+    ap cutBy (push-done a h ps x (standing-whole (h .octets ++ x ∷ []) [] (h .octets ++ x ∷ []) (append-nil (h .octets ++ x ∷ [])) g refl))
     ∙ rw (bare-append ps (given a (grown h x) ∷ []))
 feed-whole a h x (y ∷ r) ps g =
     let e : (h .octets ++ x ∷ []) ++ y ∷ r ≡ h .octets ++ x ∷ y ∷ r = append-assoc (h .octets) (x ∷ []) (y ∷ r) in
     let g′ : Good ((h .octets ++ x ∷ []) ++ y ∷ r) = rw e g in
     ap (λ (w : Work). cutBy (feed a w (y ∷ r)))
-    (push-on a h ps x (status-unfinished (h .octets ++ x ∷ []) (y ∷ r) (h .octets ++ x ∷ y ∷ r) e g (omega arith)))
+    (push-on a h ps x (standing-unfinished (h .octets ++ x ∷ []) (y ∷ r) (h .octets ++ x ∷ y ∷ r) e g (omega arith)))
     ∙ feed-whole a (grown h x) y r ps g′
     ∙ rw e
 
@@ -167,7 +167,7 @@ unfolding cutOf
 cuts-wrong s w = ap cutBy (feed-wrong 0 nothing s [] empty-unfinished w)
 
 -- what is held and the octets after it, from what is held alone
-grown-on : (h : Held) (xs : List ℕ) → status (h .octets) ≡ unfinished → cutBy (feed 0 (holding h []) xs) ≡ cutOf (h .octets ++ xs)
+grown-on : (h : Held) (xs : List ℕ) → standing (h .octets) ≡ unfinished → cutBy (feed 0 (holding h []) xs) ≡ cutOf (h .octets ++ xs)
 unfolding cutOf
 grown-on h xs u =
     let front : cutBy (feed 0 (holding nothing []) (h .octets)) ≡ cutBy (holding h []) = feed-grow 0 nothing (h .octets) [] u in

@@ -1,5 +1,5 @@
 pub mod BothSides
-pub mod Status
+pub mod Standing
 pub mod Bounds
 pub mod Cutting
 pub mod Step

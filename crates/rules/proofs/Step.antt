@@ -5,7 +5,7 @@ use mathlib.Core.Bool.{Bool, true, false, _&&_, cond}
 use Prim.Native.Nat.{ℕ, zero, suc}
 use lib.ListN.{drop}
 use lib.Dec.{eqb}
-use Rattle.rules.specs.Channel.{Held, nothing, grown, Handed, given, Status, unfinished, whole, wrong, status, Work, holding, settle, push, feed, fits, enter, follow, lostSince, afterLoss, step}
+use Rattle.rules.specs.Channel.{Held, nothing, grown, Handed, given, Standing, unfinished, whole, wrong, standing, Work, holding, settle, push, feed, fits, enter, follow, lostSince, afterLoss, step}
 use Rattle.rules.specs.Step.{StepFields}
 use Rattle.rules.specs.Bounds.{Under, StepArrivals}
 
@@ -13,7 +13,7 @@ under-more : (a : ℕ) (ps : List Handed) (p : Handed) → Under a ps → p .arr
 under-more a [] p u e = (e, tt)
 under-more a (q ∷ ps) p u e = (u .0, under-more a ps p (u .1) e)
 
-settle-under : (a : ℕ) (st : Status) (h : Held) (ps : List Handed) → Under a ps → Under a (settle a st h ps .packets)
+settle-under : (a : ℕ) (st : Standing) (h : Held) (ps : List Handed) → Under a ps → Under a (settle a st h ps .packets)
 settle-under a unfinished h ps u = u
 settle-under a wrong h ps u = u
 settle-under a whole h ps u = under-more a ps (given a h) u refl
@@ -21,7 +21,7 @@ settle-under a whole h ps u = under-more a ps (given a h) u refl
 push-under : (a : ℕ) (b : Bool) (h : Held) (ps : List Handed) (x : ℕ) → Under a ps
     → Under a (push a (record { inStep = b; held = h; packets = ps }) x .packets)
 unfolding push
-push-under a true h ps x u = settle-under a (status (grown h x .octets)) (grown h x) ps u
+push-under a true h ps x u = settle-under a (standing (grown h x .octets)) (grown h x) ps u
 push-under a false h ps x u = u
 
 feed-under : (a : ℕ) (xs : List ℕ) (w : Work) → Under a (w .packets) → Under a (feed a w xs .packets)

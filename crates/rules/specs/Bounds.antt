@@ -5,7 +5,7 @@ use mathlib.Core.List.{List, [], _∷_, _++_}
 use mathlib.Core.Bool.{Bool, true, false, not, _&&_, _||_}
 use lib.ListN.{length, take}
 use lib.Dec.{leb, ltb}
-use Rattle.rules.specs.Channel.{Piece, Handed, allowed, lengthIn, status, unfinished, Channel, fresh, Answer, step}
+use Rattle.rules.specs.Channel.{Piece, Handed, allowed, lengthIn, standing, unfinished, Channel, fresh, Answer, step}
 use Rattle.rules.specs.Packets.{AllGood, joined, bare}
 
 -- Refusal 4, of one channel that holds n octets, the first of `octets`: above 250, or any while out of step, or six or more whose
@@ -18,7 +18,7 @@ heldWrong inStep n octets =
 
 -- In step, what is held is the beginning of a packet; out of step, nothing is held.
 abbrev pub Sound : Bool → List ℕ → Type 0
-Sound true held = status held ≡ unfinished
+Sound true held = standing held ≡ unfinished
 Sound false held = held ≡ []
 
 -- A channel that holds the first n of these octets is sound exactly if refusal 4 does not hold of it.

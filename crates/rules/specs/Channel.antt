@@ -23,11 +23,11 @@ abbrev pub allowed : ℕ → Bool
 allowed n = leb 16 n && leb n 251
 
 -- What octets that begin at a packet's first octet amount to.
-pub data Status : Type 0 where
-  unfinished whole wrong : Status
+pub data Standing : Type 0 where
+  unfinished whole wrong : Standing
 
-unfoldable pub status : List ℕ → Status
-status h =
+unfoldable pub standing : List ℕ → Standing
+standing h =
     cond (ltb (length h) 6) unfinished
     (cond (allowed (lengthIn h)) (cond (ltb (length h) (lengthIn h)) unfinished whole) wrong)
 
@@ -63,13 +63,13 @@ abbrev pub holding : Held → List Handed → Work
 holding h ps = record { inStep = true; held = h; packets = ps }
 
 -- Rule 5, an octet of the frame with arrival number a at a time: in step it goes to the held ones, out of step it is skipped.
-abbrev pub settle : ℕ → Status → Held → List Handed → Work
+abbrev pub settle : ℕ → Standing → Held → List Handed → Work
 settle a unfinished h ps = holding h ps
 settle a whole h ps = holding nothing (ps ++ given a h ∷ [])
 settle a wrong h ps = outOfStep ps
 
 unfoldable pub push : ℕ → Work → ℕ → Work
-push a w x = cond (w .inStep) (settle a (status (grown (w .held) x .octets)) (grown (w .held) x) (w .packets)) w
+push a w x = cond (w .inStep) (settle a (standing (grown (w .held) x .octets)) (grown (w .held) x) (w .packets)) w
 
 abbrev pub feed : ℕ → Work → List ℕ → Work
 feed a w [] = w

@@ -4,7 +4,7 @@ use mathlib.Core.Path.{_≡_}
 use mathlib.Core.List.{List, [], _∷_, _++_}
 use mathlib.Core.Bool.{Bool, true, false}
 use lib.ListN.{take, drop}
-use Rattle.rules.specs.Channel.{Held, nothing, Handed, Work, holding, feed, status, unfinished, whole, wrong, lengthIn}
+use Rattle.rules.specs.Channel.{Held, nothing, Handed, Work, holding, feed, standing, unfinished, whole, wrong, lengthIn}
 use Rattle.rules.specs.Packets.{bare}
 
 -- What of a channel's work does not depend on arrival numbers: in step or not, the octets held, the packets handed out.
@@ -26,15 +26,15 @@ behind ps c = record { inStep = c .inStep; held = c .held; packets = ps ++ c .pa
 
 -- What is held and the frame's octets are cut as one, under any arrival number.
 abbrev pub CutsOn : Type 0
-CutsOn = (a : ℕ) (h : Held) (ps : List Handed) (xs : List ℕ) → status (h .octets) ≡ unfinished
+CutsOn = (a : ℕ) (h : Held) (ps : List Handed) (xs : List ℕ) → standing (h .octets) ≡ unfinished
     → cutBy (feed a (holding h ps) xs) ≡ behind (bare ps) (cutOf (h .octets ++ xs))
 
 -- An unfinished packet is held; a wrong length drops the rest; a whole packet is handed out and the rest is cut.
 abbrev pub CutsUnfinished : Type 0
-CutsUnfinished = (s : List ℕ) → status s ≡ unfinished → cutOf s ≡ record { inStep = true; held = s; packets = [] }
+CutsUnfinished = (s : List ℕ) → standing s ≡ unfinished → cutOf s ≡ record { inStep = true; held = s; packets = [] }
 
 abbrev pub CutsWrong : Type 0
-CutsWrong = (s : List ℕ) → status s ≡ wrong → cutOf s ≡ record { inStep = false; held = []; packets = [] }
+CutsWrong = (s : List ℕ) → standing s ≡ wrong → cutOf s ≡ record { inStep = false; held = []; packets = [] }
 
 abbrev pub CutsWhole : Type 0
-CutsWhole = (s : List ℕ) → status s ≡ whole → cutOf s ≡ behind (take (lengthIn s) s ∷ []) (cutOf (drop (lengthIn s) s))
+CutsWhole = (s : List ℕ) → standing s ≡ whole → cutOf s ≡ behind (take (lengthIn s) s ∷ []) (cutOf (drop (lengthIn s) s))

@@ -9,8 +9,8 @@ use lib.ListN.{length, length-append}
 use lib.Dec.{ltb, eqb}
 use borrow.Author.Tests.{lt-ltb, le-ltb, le-leb, lt-leb, ltb-true, ltb-false}
 use Rattle.octets.proofs.Tests.{or-left, or-right, or-true}
-use Rattle.rules.specs.Channel.{status, unfinished, wrong, allowed, lengthIn, lengthHolds, placeAfter, pointerTo, fits}
-use Rattle.rules.proofs.Status.{View, short, more, done, bad, view, not-whole, not-wrong, length-said}
+use Rattle.rules.specs.Channel.{standing, unfinished, wrong, allowed, lengthIn, lengthHolds, placeAfter, pointerTo, fits}
+use Rattle.rules.proofs.Standing.{View, short, more, done, bad, view, not-whole, not-wrong, length-said}
 
 -- a length outside 16 to 251
 pub outside : (n : ℕ) → (ltb n 16 || ltb 251 n) ≡ true → allowed n ≡ false
@@ -35,12 +35,12 @@ not-allowed n = go (ltb n 16 || ltb 251 n) refl
     go true e = ap not (outside n e)
     go false e = ap not (inside n (within n e))
 
-pub status-outside : (h : List ℕ) → 6 ≤ length h → allowed (lengthIn h) ≡ false → status h ≡ wrong
-unfolding status
-status-outside h l e = simp (le-ltb _ _ l, e)
+pub standing-outside : (h : List ℕ) → 6 ≤ length h → allowed (lengthIn h) ≡ false → standing h ≡ wrong
+unfolding standing
+standing-outside h l e = simp (le-ltb _ _ l, e)
 
 -- an unfinished packet is shorter than it says
-pub less-than-said : (h d : List ℕ) → status h ≡ unfinished → 16 ≤ lengthIn (h ++ d) → length h < lengthIn (h ++ d)
+pub less-than-said : (h d : List ℕ) → standing h ≡ unfinished → 16 ≤ lengthIn (h ++ d) → length h < lengthIn (h ++ d)
 less-than-said h d u l = go (view h)
   where
     go : View h → length h < lengthIn (h ++ d)

@@ -12,8 +12,8 @@ use Rattle.rules.specs.Channel.{nothing, Work, outOfStep, holding, feed, fits, 
 use Rattle.rules.specs.Bounds.{Sound}
 use Rattle.rules.specs.Packets.{bare}
 use Rattle.rules.specs.Cutting.{Cut}
-use Rattle.rules.proofs.Status.{empty-unfinished}
-use Rattle.rules.proofs.Bounds.{sound-status, sound-held, passing-sound, step-bounded}
+use Rattle.rules.proofs.Standing.{empty-unfinished}
+use Rattle.rules.proofs.Bounds.{sound-standing, sound-held, passing-sound, step-bounded}
 use Rattle.rules.proofs.Cutting.{cuts-on}
 use Rattle.session.specs.Channel.{lastOf, heldOf, view, channelOf, stored, channelUnsound}
 use Rattle.session.specs.Asked.{Begun, Taken, Followable}
@@ -117,7 +117,7 @@ module _ (inStep : Bool) (held : List ℕ) (pointer : ℕ) (xs : List ℕ) where
   module _ (out list : List ℕ) (f : Followable inStep held pointer xs out list) where
     pub to-fit : Begun held xs
     to-fit = record {
-      unfinished = sound-status inStep held (f .sound);
+      unfinished = sound-standing inStep held (f .sound);
       short = sound-held inStep held (f .sound);
       few = f .heard .few;
     }

@@ -10,15 +10,15 @@ use lib.ListN.{length, take, drop, set, length-append, length-drop, length-set, 
 use lib.Dec.{ltb}
 use lib.Seq.{length-take-le, take-suc-set, drop-set-lt, drop-drop, take-nil}
 use Rattle.octets.specs.Parts.{written}
-use Rattle.rules.specs.Channel.{status, unfinished, whole, wrong, lengthIn}
+use Rattle.rules.specs.Channel.{standing, unfinished, whole, wrong, lengthIn}
 use Rattle.rules.specs.Packets.{joined}
 use Rattle.rules.specs.Cutting.{Cut, cutOf, behind}
 use Rattle.rules.proofs.Bounds.{joined-append, sound-held}
-use Rattle.rules.proofs.Status.{Order, upTo, past, order, status-short, status-part, status-full}
+use Rattle.rules.proofs.Standing.{Order, upTo, past, order, standing-short, standing-part, standing-full}
 use Rattle.rules.proofs.Cutting.{Whole, whole-size, cuts-unfinished, cuts-wrong, cuts-whole}
 use Rattle.session.specs.Asked.{Counted, Left}
 use Rattle.session.specs.Promised.{Cuts}
-use Rattle.session.proofs.Fitting.{Within, outside, status-outside, less-than-said}
+use Rattle.session.proofs.Fitting.{Within, outside, standing-outside, less-than-said}
 
 -- Packets are being cut out of held and xs: `done` are cut, with `at` octets, and their lengths are written.
 pub record Going (held xs list₀ list : List ℕ) (packets at : ℕ) : Type 0 where
@@ -51,7 +51,7 @@ take-more (suc at) n [] = ap (λ (l : List ℕ). l) (take-nil n) ∙ sym (take-n
 take-more (suc at) n (x ∷ s) = ap (λ (l : List ℕ). x ∷ l) (take-more at n s) ∙ ap (λ (k : ℕ). take k (x ∷ s)) (sym (suc-add at n))
 
 -- a whole packet at the start reaches past all that is held
-past-more : (held xs : List ℕ) (at : ℕ) → status held ≡ unfinished → (at < length held → at ≡ 0) → 16 ≤ lengthIn (drop at (held ++ xs))
+past-more : (held xs : List ℕ) (at : ℕ) → standing held ≡ unfinished → (at < length held → at ≡ 0) → 16 ≤ lengthIn (drop at (held ++ xs))
     → length held ≤ at + lengthIn (drop at (held ++ xs))
 past-more held xs zero u p h = omega (arith, less-than-said held xs u h)
 past-more held xs (suc a) u p h = go (order (suc (suc a)) (length held))
@@ -81,7 +81,7 @@ module _ (held xs list₀ list : List ℕ) (packets at : ℕ) (g : Going held xs
   ahead : length (drop at s) ≡ length held + length xs - at
   ahead = length-drop at s ∙ ap (λ (k : ℕ). k - at) (length-append held xs)
 
-  module _ (w : status (drop at s) ≡ whole) where
+  module _ (w : standing (drop at s) ≡ whole) where
     abbrev n : ℕ
     n = lengthIn (drop at s)
 
@@ -144,13 +144,13 @@ module _ (held xs list₀ list : List ℕ) (packets at : ℕ) (g : Going held xs
         lengths = wrote ∙ ap (λ (c : Cut). written (map length (c .packets)) list₀) (sym e);
       }
 
-  pub going-unfinished : status (drop at s) ≡ unfinished
+  pub going-unfinished : standing (drop at s) ≡ unfinished
       → Cuts held xs (record { packets = packets; octets = at; kept = at; instep = true }) list₀ list
   going-unfinished u =
       stops true (drop at s) at (cuts-unfinished (drop at s) u) refl
       (record { within = g .within; past = g .past; short = sound-held true (drop at s) u })
 
-  pub going-wrong : status (drop at s) ≡ wrong
+  pub going-wrong : standing (drop at s) ≡ wrong
       → Cuts held xs (record { packets = packets; octets = at; kept = length held + length xs; instep = false }) list₀ list
   going-wrong u =
       let d : drop (length held + length xs) s ≡ [] = drop-of-length-le s {i = length held + length xs} (omega (arith, length-append held xs)) in
@@ -161,17 +161,17 @@ module _ (held xs list₀ list : List ℕ) (packets at : ℕ) (g : Going held xs
   module _ (n : ℕ) (e : n ≡ lengthIn (drop at s)) where
     pub stops-wrong : 6 ≤ length held + length xs - at → (ltb n 16 || ltb 251 n) ≡ true
         → Cuts held xs (record { packets = packets; octets = at; kept = length held + length xs; instep = false }) list₀ list
-    stops-wrong h t = going-wrong (status-outside (drop at s) (omega (arith, ahead)) (rw e at (outside n t)))
+    stops-wrong h t = going-wrong (standing-outside (drop at s) (omega (arith, ahead)) (rw e at (outside n t)))
 
     pub stops-part : Within n → length held + length xs - at < n
         → Cuts held xs (record { packets = packets; octets = at; kept = at; instep = true }) list₀ list
     stops-part v h =
-        going-unfinished (status-part (drop at s) (omega (arith, e, v .least)) (omega (arith, e, v .greatest)) (omega (arith, e, ahead)))
+        going-unfinished (standing-part (drop at s) (omega (arith, e, v .least)) (omega (arith, e, v .greatest)) (omega (arith, e, ahead)))
 
     pub turn : Counted held xs list₀ → Within n → n ≤ length held + length xs - at → Turn held xs list₀ list packets at n
     turn k v h =
-        let w : status (drop at s) ≡ whole =
-        status-full (drop at s) (omega (arith, e, v .least)) (omega (arith, e, v .greatest)) (omega (arith, e, ahead)) in
+        let w : standing (drop at s) ≡ whole =
+        standing-full (drop at s) (omega (arith, e, v .least)) (omega (arith, e, v .greatest)) (omega (arith, e, ahead)) in
         let r = going-room w (k .entries) in
         record {
           least = v .least;
@@ -182,4 +182,4 @@ module _ (held xs list₀ list : List ℕ) (packets at : ℕ) (g : Going held xs
         }
 
   pub stops-short : length held + length xs - at < 6 → Cuts held xs (record { packets = packets; octets = at; kept = at; instep = true }) list₀ list
-  stops-short h = going-unfinished (status-short (drop at s) (omega (arith, ahead)))
+  stops-short h = going-unfinished (standing-short (drop at s) (omega (arith, ahead)))

@@ -13,7 +13,7 @@ use Rattle.octets.proofs.Tests.{or-left, or-right}
 use Rattle.answer.specs.Told.{accept, refuse}
 use Rattle.answer.specs.Refusals as no
 use Rattle.frame.specs.Frame.{noFrame, readFrame, dataOf}
-use Rattle.frame.specs.Statements.{PointerRight, Accepted}
+use Rattle.frame.specs.Back.{PointerRight, Accepted}
 use Rattle.frame.specs.declared.Frame.{Frame}
 use Rattle.rules.specs.Channel.{lostSince, step}
 use Rattle.session.specs.Channel.{lastOf, view, channelUnsound, unsound}

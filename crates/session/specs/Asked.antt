@@ -4,7 +4,7 @@ use mathlib.Core.Path.{_≡_}
 use mathlib.Core.List.{List, _++_}
 use mathlib.Core.Bool.{Bool, false}
 use lib.ListN.{length, drop}
-use Rattle.rules.specs.Channel.{status, unfinished}
+use Rattle.rules.specs.Channel.{standing, unfinished}
 use Rattle.rules.specs.Bounds.{Sound}
 use Rattle.rules.specs.Cutting.{cutOf}
 use Rattle.session.specs.Channel.{channelUnsound}
@@ -12,7 +12,7 @@ use Rattle.session.specs.declared.Channel.{Channel}
 
 -- What is held begins a packet, and the data xs is no more than a frame has.
 pub record Begun (held xs : List ℕ) : Type 0 where
-  pub unfinished : status held ≡ unfinished
+  pub unfinished : standing held ≡ unfinished
   pub short : length held ≤ 250
   pub few : length xs ≤ 251
 

@@ -1,6 +1,6 @@
 use Rattle.octets.proofs.Tests.{tests}
 use borrow.Author.Tests.{le-ltb}
-use Rattle.frame.specs.Writer.{fieldsWrong}
+use Rattle.frame.specs.Write.{fieldsWrong}
 use borrow.Author.Needs.{needs}
 use Rattle.frame.proofs.writing.fields_wrong.Statement.{statement}
 use Rattle.frame.proofs.writing.fields_wrong.Tie as tie

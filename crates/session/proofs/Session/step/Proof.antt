@@ -7,7 +7,7 @@ use Prim.Native.Nat.{_<_}
 use lib.ListN.{length}
 use Rattle.octets.proofs.Choices.{through}
 use Rattle.frame.specs.Frame.{told}
-use Rattle.frame.specs.Statements.{Accepted}
+use Rattle.frame.specs.Back.{Accepted}
 use Rattle.frame.proofs.Accepts.{accepts}
 use Rattle.session.specs.Channel.{fresh, unsound}
 use Rattle.session.specs.Step.{counted}

@@ -8,7 +8,7 @@ use lib.ListN.{length, length-append, List·getD-append}
 use lib.Dec.{leb}
 use borrow.Author.Tests.{lt-ltb, leb-true, leb-false}
 use Rattle.octets.specs.Numbers.{at}
-use Rattle.rules.specs.Channel.{Status, unfinished, whole, wrong, status, lengthIn}
+use Rattle.rules.specs.Channel.{Standing, unfinished, whole, wrong, standing, lengthIn}
 use Rattle.rules.specs.Packets.{Good}
 
 -- m at most n or past it, with what the test says
@@ -33,15 +33,15 @@ length-said h r p e k =
 pub says : (p : List ℕ) → Good p → lengthIn p ≡ length p
 says p g = omega (arith, g .says, g .least)
 
--- the four cases of a status
+-- the four cases of a standing
 pub data View (h : List ℕ) : Type 0 where
-  short : length h < 6 → status h ≡ unfinished → View h
-  more : 6 ≤ length h → 16 ≤ lengthIn h → lengthIn h ≤ 251 → length h < lengthIn h → status h ≡ unfinished → View h
-  done : 6 ≤ length h → 16 ≤ lengthIn h → lengthIn h ≤ 251 → lengthIn h ≤ length h → status h ≡ whole → View h
-  bad : 6 ≤ length h → (16 ≤ lengthIn h → lengthIn h ≤ 251 → ⊥) → status h ≡ wrong → View h
+  short : length h < 6 → standing h ≡ unfinished → View h
+  more : 6 ≤ length h → 16 ≤ lengthIn h → lengthIn h ≤ 251 → length h < lengthIn h → standing h ≡ unfinished → View h
+  done : 6 ≤ length h → 16 ≤ lengthIn h → lengthIn h ≤ 251 → lengthIn h ≤ length h → standing h ≡ whole → View h
+  bad : 6 ≤ length h → (16 ≤ lengthIn h → lengthIn h ≤ 251 → ⊥) → standing h ≡ wrong → View h
 
 pub view : (h : List ℕ) → View h
-unfolding status
+unfolding standing
 view h = go (order (suc (length h)) 6) (order 16 (lengthIn h)) (order (lengthIn h) 251) (order (suc (length h)) (lengthIn h))
   where
     go : Order (suc (length h)) 6 → Order 16 (lengthIn h) → Order (lengthIn h) 251 → Order (suc (length h)) (lengthIn h) → View h
@@ -51,41 +51,41 @@ view h = go (order (suc (length h)) 6) (order 16 (lengthIn h)) (order (lengthIn 
     go (past a p) (upTo b q) (upTo c r) (upTo d t) = more (omega arith) b c d (rw (p, q, r, t))
     go (past a p) (upTo b q) (upTo c r) (past d t) = done (omega arith) b c (omega arith) (rw (p, q, r, t))
 
--- one status at a time
-pub not-whole : {A : Type 0} {s : Status} → s ≡ unfinished → s ≡ whole → A
+-- one standing at a time
+pub not-whole : {A : Type 0} {s : Standing} → s ≡ unfinished → s ≡ whole → A
 not-whole p q = let z : _≡_ {A = ℕ} 0 1 = cc in absurd (omega arith)
 
-pub not-wrong : {A : Type 0} {s : Status} → s ≡ unfinished → s ≡ wrong → A
+pub not-wrong : {A : Type 0} {s : Standing} → s ≡ unfinished → s ≡ wrong → A
 not-wrong p q = let z : _≡_ {A = ℕ} 0 1 = cc in absurd (omega arith)
 
-pub not-both : {A : Type 0} {s : Status} → s ≡ wrong → s ≡ whole → A
+pub not-both : {A : Type 0} {s : Standing} → s ≡ wrong → s ≡ whole → A
 not-both p q = let z : _≡_ {A = ℕ} 0 1 = cc in absurd (omega arith)
 
--- the status by the orders that code tests
-pub status-short : (h : List ℕ) → length h < 6 → status h ≡ unfinished
-unfolding status
-status-short h l = rw (lt-ltb (length h) 6 l)
+-- the standing by the orders that code tests
+pub standing-short : (h : List ℕ) → length h < 6 → standing h ≡ unfinished
+unfolding standing
+standing-short h l = rw (lt-ltb (length h) 6 l)
 
-pub status-part : (h : List ℕ) → 16 ≤ lengthIn h → lengthIn h ≤ 251 → length h < lengthIn h → status h ≡ unfinished
-status-part h k l m = go (view h)
+pub standing-part : (h : List ℕ) → 16 ≤ lengthIn h → lengthIn h ≤ 251 → length h < lengthIn h → standing h ≡ unfinished
+standing-part h k l m = go (view h)
   where
-    go : View h → status h ≡ unfinished
+    go : View h → standing h ≡ unfinished
     go (short a e) = e
     go (more a b c d e) = e
     go (done a b c d e) = absurd (omega arith)
     go (bad a n e) = absurd (n k l)
 
-pub status-full : (h : List ℕ) → 16 ≤ lengthIn h → lengthIn h ≤ 251 → lengthIn h ≤ length h → status h ≡ whole
-status-full h k l m = go (view h)
+pub standing-full : (h : List ℕ) → 16 ≤ lengthIn h → lengthIn h ≤ 251 → lengthIn h ≤ length h → standing h ≡ whole
+standing-full h k l m = go (view h)
   where
-    go : View h → status h ≡ whole
+    go : View h → standing h ≡ whole
     go (short a e) = absurd (omega arith)
     go (more a b c d e) = absurd (omega arith)
     go (done a b c d e) = e
     go (bad a n e) = absurd (n k l)
 
-pub empty-unfinished : status [] ≡ unfinished
-unfolding status
+pub empty-unfinished : standing [] ≡ unfinished
+unfolding standing
 empty-unfinished = refl
 
 -- h of a good packet p, of which r is left
@@ -93,22 +93,22 @@ module _ (h r p : List ℕ) (e : h ++ r ≡ p) (g : Good p) where
   sum-lengths : length h + length r ≡ length p
   sum-lengths = sym (length-append h r) ∙ ap length e
 
-  pub status-whole : length r ≡ 0 → status h ≡ whole
-  status-whole z =
+  pub standing-whole : length r ≡ 0 → standing h ≡ whole
+  standing-whole z =
       let said : lengthIn h ≡ length p = length-said h r p e (omega (arith, sum-lengths, g .least)) ∙ says p g in
-      status-full h (omega (arith, g .least)) (omega (arith, g .greatest)) (omega (arith, sum-lengths))
+      standing-full h (omega (arith, g .least)) (omega (arith, g .greatest)) (omega (arith, sum-lengths))
 
-  pub status-unfinished : 0 < length r → status h ≡ unfinished
-  status-unfinished z = go (order 6 (length h))
+  pub standing-unfinished : 0 < length r → standing h ≡ unfinished
+  standing-unfinished z = go (order 6 (length h))
     where
-      go : Order 6 (length h) → status h ≡ unfinished
-      go (past k t) = status-short h k
+      go : Order 6 (length h) → standing h ≡ unfinished
+      go (past k t) = standing-short h k
       go (upTo k t) =
           let said : lengthIn h ≡ length p = length-said h r p e k ∙ says p g in
-          status-part h (omega (arith, g .least)) (omega (arith, g .greatest)) (omega (arith, sum-lengths))
+          standing-part h (omega (arith, g .least)) (omega (arith, g .greatest)) (omega (arith, sum-lengths))
 
 -- one octet more makes a whole packet of exactly the length that it says
-pub whole-good : (h : List ℕ) (x : ℕ) → status h ≡ unfinished → status (h ++ x ∷ []) ≡ whole → Good (h ++ x ∷ [])
+pub whole-good : (h : List ℕ) (x : ℕ) → standing h ≡ unfinished → standing (h ++ x ∷ []) ≡ whole → Good (h ++ x ∷ [])
 whole-good h x u w = go (view h) (view (h ++ x ∷ []))
   where
     len : length (h ++ x ∷ []) ≡ length h + 1

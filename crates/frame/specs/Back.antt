@@ -8,7 +8,7 @@ use lib.ListN.{length}
 use Rattle.octets.specs.Numbers.{at}
 use Rattle.answer.specs.Told.{accept}
 use Rattle.frame.specs.Frame.{readFrame, dataOf, timeOf}
-use Rattle.frame.specs.Writer.{fieldsWrong, frameOctets}
+use Rattle.frame.specs.Write.{fieldsWrong, frameOctets}
 use Rattle.frame.specs.declared.Frame.{Frame}
 
 -- What was written is accepted and reads back to the same fields, data and time. (Fields that aren't wrong have t from 0 to 8.)
