@@ -138,14 +138,6 @@ fn counted(
         failed: state.failed,
     };
     let turn = frames(input, out, octets, lengths, next, session, ready.number);
-    finished(input, out, turn)
-}
-
-// That nothing follows the last frame.
-fn finished(input: &mut [u8], out: &[u8], turn: Turn) -> Turn
-    requires { ⌜ Held (turn .state) (length (now input)) (length (now out)) ⌝ }
-    ensures { λ r. ⌜ Held (r .state) (length (now (input .exit))) (length (now (out .entry))) ⌝ }
-{
     if !turn.good {
         return turn;
     }
