@@ -1,5 +1,5 @@
 -- No line of a frame or a packet is longer than 80 octets.
-use Prim.Native.Nat.{ℕ, zero, suc, _+_, _*_, _%_, _/_, _≤_}
+use Prim.Native.Nat.{ℕ, zero, suc, _+_, _*_, _/_, _≤_}
 use mathlib.Core.List.{List, [], _∷_, _++_}
 use mathlib.Core.Bool.{Bool, true, false}
 use native.Mathlib.Omega.{arith}

@@ -1,5 +1,4 @@
 -- No second result satisfies a contract of this crate's public functions.
-use Prim.Native.Nat.{ℕ}
 use mathlib.Core.Path.{_≡_, refl, sym, ap}
 use mathlib.Core.Bool.{true≢false}
 use Rattle.octets.specs.Unique.{Fixes}
