@@ -7,11 +7,6 @@ pub picked : {A : Type 0} (b : Bool) (x y : A) → b ≡ true → x ≡ pick b x
 unfolding pick
 picked b x y h = simp h
 
--- the same of what is equal to x
-pub chosen : {A : Type 0} (b : Bool) (x y z : A) → b ≡ true → z ≡ x → z ≡ pick b x y
-unfolding pick
-chosen b x y z h e = simp (h, e)
-
 pub passed : {A : Type 0} (b : Bool) (x y z : A) → b ≡ false → z ≡ y → z ≡ pick b x y
 unfolding pick
 passed b x y z h e = simp (h, e)

@@ -1,27 +1,20 @@
 -- What is known of a report that was accepted.
-use Prim.Native.Nat.{ℕ, _≤_}
-use native.Mathlib.Omega.{arith}
-use mathlib.Core.Path.{_≡_, refl, sym, subst, _∙_}
+use Prim.Native.Nat.{ℕ}
+use mathlib.Core.Path.{_≡_, refl, sym, subst}
 use mathlib.Core.List.{List}
 use mathlib.Core.Bool.{Bool, true, false}
-use lib.Dec.{ltb}
-use borrow.Author.Tests.{ltb-false}
-use Rattle.octets.specs.Numbers.{at}
 use Rattle.octets.specs.Pick.{pick}
 use Rattle.octets.proofs.Choices.{not-picked}
 use Rattle.answer.specs.Told.{Told, accept, refuse}
 use Rattle.answer.proofs.Told.{same-fields, refuse-or-accept}
 use Rattle.packet.specs.Packet.{readPacket}
 use Rattle.packet.proofs.Told.{accepts}
-use Rattle.report.specs.Table.{findPair, imageLine}
-use Rattle.report.specs.Report.{lineOf, contentOf, lengthWrong, lineAbove, noReport, inPair, readContent, readReport}
-use Rattle.report.proofs.Known.{Kind, kind, a-success, a-failure, a-housekeeping, an-available, a-line}
-use Rattle.report.proofs.Known.{of-success, of-failure, of-housekeeping, of-available, of-line}
+use Rattle.report.specs.Table.{findPair}
+use Rattle.report.specs.Report.{contentOf, lengthWrong, lineAbove, noReport, inPair, readContent, readReport}
+use Rattle.report.proofs.Known.{Kind, kind}
 use Rattle.packet.specs.declared.Packet.{Packet}
 use Rattle.report.specs.declared.table.Found.{Found}
 use Rattle.report.specs.declared.table.Found.the-variants as found
-use Rattle.report.specs.declared.Line.{Line}
-use Rattle.report.specs.declared.Content.the-variants as content
 use Rattle.report.specs.declared.Report.{Report}
 
 pub record Accepted (s : List ℕ) (r : Report) : Type 0 where
@@ -54,26 +47,3 @@ accepted s r h =
     let b = in-pair (findPair (p .service) (p .subtype)) p s refl (a .1) in
     subst (Accepted s) (b .2)
     (record { packet = accepts s (a .0); kind = b .0; below = b .1; content = refl })
-
--- an image line: its pair, its length, and what the packet has for it
-pub record IsLine (s : List ℕ) (p : Packet) (l : Line) : Type 0 where
-  pub pair : imageLine p ≡ true
-  pub long : p .length ≡ 191
-  pub fields : l ≡ lineOf s
-  pub below : l .line ≤ 119
-
-line-kind : (s : List ℕ) (p : Packet) (l : Line) → Kind p → lineAbove p s ≡ false → contentOf p s ≡ content.Line l → IsLine s p l
-unfolding lineAbove
-line-kind s p l (a-success f n) b e = let k = of-success p f .content s in let z : _≡_ {A = ℕ} 0 1 = cc in absurd (omega arith)
-line-kind s p l (a-failure f n) b e = let k = of-failure p f .content s in let z : _≡_ {A = ℕ} 0 1 = cc in absurd (omega arith)
-line-kind s p l (a-housekeeping f n) b e =
-    let k = of-housekeeping p f .content s in let z : _≡_ {A = ℕ} 0 1 = cc in absurd (omega arith)
-line-kind s p l (an-available f n) b e = let k = of-available p f .content s in let z : _≡_ {A = ℕ} 0 1 = cc in absurd (omega arith)
-line-kind s p l (a-line f n) b e =
-    let k = of-line p f .content s in
-    let same : l ≡ lineOf s = cc in
-    let low : ltb 119 (at s 16) ≡ false = simp f at b in
-    record { pair = f; long = n; fields = same; below = rw same (ltb-false 119 (at s 16) low) }
-
-pub is-line : (s : List ℕ) (r : Report) (l : Line) → Accepted s r → r .content ≡ content.Line l → IsLine s (r .packet) l
-is-line s r l k e = line-kind s (r .packet) l (k .kind) (k .below) (sym (k .content) ∙ e)
