@@ -10,7 +10,7 @@ use Rattle.frame.specs.Frame.{flagOf, pointerWrong}
 use Rattle.frame.specs.declared.Frame.{Frame}
 
 -- 51, of fields that are lent n octets of data and m octets of time: t above 8, time not t octets, another length than the data's,
--- data above 251 - t, a channel of 3 bits, telecommands of 2, pointer wrong, an address with an SSID of 4 bits or its callsign wrong.
+-- data above 251 - t, a channel above 3 bits, telecommands above 2, pointer wrong, an SSID above 4 bits or a callsign wrong.
 unfoldable pub fieldsWrong : Frame → ℕ → ℕ → ℕ → Bool
 fieldsWrong f t n m =
     ltb 8 t || (not (eqb m t) || not (eqb (f .length) n) || ltb (251 - t) n || ltb 7 (f .channel) || ltb 3 (f .telecommands)
