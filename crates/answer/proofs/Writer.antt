@@ -1,15 +1,16 @@
 -- The three ends of a writer, and that its contract leaves one answer and one output.
 use Prim.Native.Nat.{ℕ, _≤_, _<_}
-use mathlib.Core.Path.{_≡_, sym, ap, _∙_}
+use mathlib.Core.Path.{_≡_, refl, sym, ap, _∙_}
 use mathlib.Core.List.{List}
-use mathlib.Core.Bool.{Bool, true, false}
-use lib.ListN.{length}
+use mathlib.Core.Bool.{Bool, true, false, true≢false}
+use lib.ListN.{length, take}
+use lib.Seq.{take-append-seam}
 use borrow.Author.Tests.{lt-ltb, le-ltb}
 use Rattle.octets.specs.Pick.{pick}
 use Rattle.octets.specs.Parts.{written}
 use Rattle.answer.specs.Refusals.{outputShort, fieldRange}
 use Rattle.answer.proofs.Told.{same-fields, same-refusal, accept-or-refuse, refuse-or-accept}
-use Rattle.answer.specs.Writer.{told, writing, left, Wrote}
+use Rattle.answer.specs.Writer.{told, writing, left, Wrote, Gives, RefusalsTellNothing}
 use Rattle.answer.specs.declared.Written.{Written}
 use Rattle.answer.specs.declared.Written.the-variants.{Length, Refused}
 
@@ -27,6 +28,11 @@ module _ {wrong : Bool} {octets out : List ℕ} {said : Bool} (says : said ≡ w
   unfolding writing left pick
   wrote h l e w = record { answers = simp (sym says ∙ h, le-ltb _ _ l, e); leaves = simp (sym says ∙ h, le-ltb _ _ l, w) }
 
+-- a refusal tells the length 0
+pub refusals-tell-nothing : RefusalsTellNothing
+refusals-tell-nothing (Length n) h = absurd (true≢false h)
+refusals-tell-nothing (Refused n) h = refl
+
 -- no two answers are told alike
 pub told-apart : (x y : Written) → told x ≡ told y → x ≡ y
 told-apart (Length n) (Length m) h = ap Length (same-fields h)
@@ -38,3 +44,13 @@ told-apart (Refused n) (Length m) h = refuse-or-accept h
 pub one-written : {wrong : Bool} {octets out : List ℕ} {r q : Written} {out₁ out₂ : List ℕ}
     → Wrote wrong octets out r out₁ → Wrote wrong octets out q out₂ → _≡_ {A = Written × List ℕ} (r, out₁) (q, out₂)
 one-written {r = r} {q = q} a b = simp (told-apart r q (a .answers ∙ sym (b .answers)), a .leaves, b .leaves)
+
+-- fields that are right, on an output with room, are written
+pub gives : Gives
+gives wrong octets out r out′ right room w =
+    let same : _≡_ {A = Written × List ℕ} (r, out′) (Length (length octets), written octets out) =
+    one-written w (wrote {said = wrong} refl right room refl refl) in
+    record {
+      answers = ap (λ (q : Written × List ℕ). q .0) same;
+      leaves = ap (λ (q : Written × List ℕ). take (length octets) (q .1)) same ∙ take-append-seam octets _;
+    }

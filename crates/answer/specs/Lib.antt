@@ -1,3 +1,4 @@
 pub mod Refusals
 pub mod Told
 pub mod Writer
+pub mod Back

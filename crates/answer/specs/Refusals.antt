@@ -13,7 +13,7 @@ timeLength = 2
 abbrev pub arrivals : ℕ
 arrivals = 3
 
--- A session that opening and steps do not give.
+-- A session with t above 8, or with a channel that holds above 250 octets, or any while out of step, or six or more whose packet's length is outside 16 to 251 or not above the number held.
 abbrev pub session : ℕ
 session = 4
 

@@ -1,6 +1,9 @@
 -- What an answer tells: whether it accepts, the refusal's number, and the values.
 use Prim.Native.Nat.{ℕ}
-use mathlib.Core.Bool.{Bool, true, false}
+use mathlib.Core.Path.{_≡_}
+use mathlib.Core.List.{List, [], _∷_}
+use mathlib.Core.Bool.{Bool, true, false, _&&_}
+use lib.Dec.{eqb}
 
 pub record Told (A : Type 0) : Type 0 where
   pub accepted : Bool
@@ -14,3 +17,11 @@ accept a = record { accepted = true; refusal = 0; fields = a }
 -- Refused: the number, and 0 in every other field (none says what that is).
 abbrev pub refuse : {A : Type 0} → A → ℕ → Told A
 refuse none n = record { accepted = false; refusal = n; fields = none }
+
+-- A refusal's answer holds its number and 0 in every other field: these are the numbers of the fields.
+abbrev pub allZero : List ℕ → Bool
+allZero [] = true
+allZero (n ∷ ns) = eqb n 0 && allZero ns
+
+abbrev pub TellsNothing : {A R : Type 0} → (R → Told A) → (A → List ℕ) → Type 0
+TellsNothing {A} {R} told numbers = (r : R) → told r .accepted ≡ false → allZero (numbers (told r .fields)) ≡ true

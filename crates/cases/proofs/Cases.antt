@@ -2,7 +2,7 @@
 use mathlib.Core.Path.{refl}
 use Rattle.octets.specs.Pick.{pick}
 use Rattle.crc.specs.Check.{check}
-use Rattle.rules.specs.Channel.{lostSince}
+use Rattle.counts.specs.Lost.{lostSince}
 use Rattle.frame.specs.Frame.{statusWrong}
 use Rattle.packet.specs.Packet.{fieldsOf}
 use Rattle.sequence.specs.Sequence.{since}

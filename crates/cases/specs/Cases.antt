@@ -5,8 +5,9 @@ use mathlib.Core.Bool.{Bool, true, false}
 use mathlib.Core.Option.{some}
 use mathlib.Core.List.{List, [], _∷_, _++_, map}
 use Rattle.octets.specs.Numbers.{at}
+use Rattle.answer.specs.Told.{Told, accept}
 use Rattle.crc.specs.Check.{packetCheck}
-use Rattle.rules.specs.Channel.{lostSince}
+use Rattle.counts.specs.Lost.{lostSince}
 use Rattle.frame.specs.Address.{addressOctets}
 use Rattle.frame.specs.Frame.{statusWrong}
 use Rattle.frame.specs.declared.Address.{Address}
@@ -14,9 +15,10 @@ use Rattle.packet.specs.Packet.{fieldsOf}
 use Rattle.sequence.specs.Sequence.{since}
 use Rattle.image.specs.Line.{start}
 
--- Numbers, or whether something is wrong.
+-- Numbers, what an answer tells, or whether something is wrong.
 pub data Said : Type 0 where
   numbers : List ℕ → Said
+  answer : Told ℕ → Said
   wrong : Bool → Bool → Said
 
 pub record Row : Type 0 where
@@ -62,9 +64,9 @@ table =
     -- 254 then 1, lost 2
     ∷ row (one (lostSince (some 254) 1)) (one 2)
     -- sequence 16,383 then 0, missing 0 (the entry is the last count + 1)
-    ∷ row (one (since 16384 0 .fields)) (one 0)
+    ∷ row (answer (since 16384 0)) (answer (accept 0))
     -- 5 then 9, missing 3
-    ∷ row (one (since 6 9 .fields)) (one 3)
+    ∷ row (answer (since 6 9)) (answer (accept 3))
     -- time 00 00 00 01 80 is 384
     ∷ row (one (fieldsOf upToTime .time)) (one 384)
     -- line 119 starts at 22,372

@@ -51,7 +51,7 @@ gap-on m last k low high =
     (gap-alone m ((last + k) % m) last (k - 1) (omega arith)
     (record { below = omega arith; leads = ap (λ (n : ℕ). n % m) sum ∙ sym (mod-mod (last + k) m) }))
 
--- THE law of the three counters: two subtractions that wrap at a multiple w of m leave the gap, modulo m
+-- the law of the three counters: two subtractions that wrap at a multiple w of m leave the gap, modulo m
 pub wrapped : (m w count last d g : ℕ) → 0 < m → w % m ≡ 0 → (d + last) % w ≡ count → (g + 1) % w ≡ d → g % m ≡ gap m count last
 wrapped m w count last d g h v p q =
     gap-alone m count last (g % m) h

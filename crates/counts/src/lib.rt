@@ -1,6 +1,7 @@
 // Three counters that run apart and are never compared with one another.
 ghost use mathlib.Core.Path.{_≡_};
 ghost use Rattle.counts.specs.Gap.{gap};
+ghost use Rattle.counts.specs.Lost.{lastOf, lostSince};
 
 // The master frame count, over all channels.
 pub struct MasterCount(pub u8);
@@ -18,21 +19,31 @@ fn gap(count: u8, last: u8) -> u8
     std::num::wrapping_sub_u8(std::num::wrapping_sub_u8(count, last), 1)
 }
 
+// How many frames were lost between the last one, if one was heard, and the one with this count.
+fn lost(heard: bool, last: u8, count: u8) -> u8
+    ensures { λ r. ⌜ r ≡ lostSince (lastOf heard last) count ⌝ }
+{
+    if heard {
+        return gap(count, last);
+    }
+    0
+}
+
 impl MasterCount {
-    // How many frames were lost between the one counted last and this one.
-    pub fn lost(self, last: MasterCount) -> u8
-        ensures { λ r. ⌜ r ≡ gap 256 (self .0) (last .0) ⌝ }
+    // How many frames of all channels were lost before this one, after the last if one was heard.
+    pub fn lost(self, heard: bool, last: MasterCount) -> u8
+        ensures { λ r. ⌜ r ≡ lostSince (lastOf heard (last .0)) (self .0) ⌝ }
     {
-        gap(self.0, last.0)
+        lost(heard, last.0, self.0)
     }
 }
 
 impl ChannelCount {
-    // How many of the channel's frames were lost between the one counted last and this one.
-    pub fn lost(self, last: ChannelCount) -> u8
-        ensures { λ r. ⌜ r ≡ gap 256 (self .0) (last .0) ⌝ }
+    // How many of the channel's frames were lost before this one, after the last if one was heard.
+    pub fn lost(self, heard: bool, last: ChannelCount) -> u8
+        ensures { λ r. ⌜ r ≡ lostSince (lastOf heard (last .0)) (self .0) ⌝ }
     {
-        gap(self.0, last.0)
+        lost(heard, last.0, self.0)
     }
 }
 

@@ -7,10 +7,11 @@ use native.Mathlib.Omega.{arith}
 use lib.ListN.{length, take, drop}
 use lib.Seq.{take-add}
 use lib.Bits.{bitXor}
-use Rattle.crc.specs.Check.{plus, zeros, run, bitsOf, bitsOfAll, register}
-use Rattle.crc.specs.Check.Order.{lowFirst}
+use Rattle.bits.specs.Rows.{plus, zeros, bitsOf, bitsOfAll}
+use Rattle.crc.specs.Check.{run, register}
+use Rattle.bits.specs.Rows.Order.{lowFirst}
 use Rattle.crc.proofs.Register.{Z, plus-Z, apart}
-use Rattle.crc.proofs.Numbers.{length-bits}
+use Rattle.bits.proofs.Numbers.{length-bits}
 use Rattle.crc.proofs.Octets.{register-append, length-register}
 use Rattle.crc.proofs.Low.{after, after-linear}
 

@@ -5,8 +5,9 @@ use mathlib.Core.List.{List, [], _∷_, _++_, append-nil}
 use Prim.Native.Nat.{ℕ, zero, suc}
 use native.Mathlib.Nat.{suc-inj, suc-ne-zero}
 use lib.ListN.{length}
-use Rattle.crc.specs.Check.{plus, zeros, generator, feed, step, run}
-use Rattle.crc.proofs.Rows.{plus-assoc, plus-self, zeros-plus, length-plus, plus-append, plus-twice, length-snoc}
+use Rattle.bits.specs.Rows.{plus, zeros}
+use Rattle.crc.specs.Check.{generator, feed, step, run}
+use Rattle.bits.proofs.Rows.{plus-assoc, plus-self, zeros-plus, length-plus, plus-append, plus-twice, length-snoc}
 use Rattle.crc.proofs.Register.{Z, plus-Z, length-step, length-run, split}
 
 -- ---- a step over 0 has an inverse: the generator's X^0 says what left

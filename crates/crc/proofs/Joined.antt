@@ -8,10 +8,10 @@ use native.Mathlib.Omega.{arith}
 use lib.ListN.{length, getD, take, drop, length-drop}
 use lib.Seq.{length-take-le, drop-cons}
 use lib.Bits.{bitXor}
-use Rattle.crc.specs.Check.{plus, zeros, bitsOfAll, digitsOf}
-use Rattle.crc.specs.Check.Order.{lowFirst}
-use Rattle.crc.proofs.Rows.{plus-self, plus-zeros, zeros-plus, plus-append, length-zeros}
-use Rattle.crc.proofs.Numbers.{length-digits, digits-xor, digits-zero, digits-small, digits-left}
+use Rattle.bits.specs.Rows.{plus, zeros, bitsOfAll, digitsOf}
+use Rattle.bits.specs.Rows.Order.{lowFirst}
+use Rattle.bits.proofs.Rows.{plus-self, plus-zeros, zeros-plus, plus-append, length-zeros}
+use Rattle.bits.proofs.Numbers.{length-digits, digits-xor, digits-zero, digits-small, digits-left}
 use Rattle.crc.proofs.Octets.{length-bits-all}
 
 zeros-append : (j k : ℕ) (r : List Bool) → zeros (k + j) ++ r ≡ zeros j ++ (zeros k ++ r)

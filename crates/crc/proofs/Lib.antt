@@ -4,13 +4,11 @@ pub mod Inverse
 pub mod Joined
 pub mod Linear
 pub mod Low
-pub mod Numbers
 pub mod Octets
 pub mod Own
 pub mod Passed
 pub mod Register
-pub mod Rows
+pub mod Ruled
 pub mod Shifts
-pub mod Table
 pub mod Turn
 pub mod Unique

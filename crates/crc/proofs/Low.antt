@@ -7,10 +7,11 @@ use native.Mathlib.Nat.{lt-of-lt-of-le}
 use lib.ListN.{length}
 use lib.Pow.{shr-lt}
 use lib.Dec.{lit≤}
-use Rattle.crc.specs.Check.{zeros, run, bitsOf, numberOf}
-use Rattle.crc.specs.Check.Order.{lowFirst}
+use Rattle.bits.specs.Rows.{zeros, bitsOf, numberOf}
+use Rattle.crc.specs.Check.{run}
+use Rattle.bits.specs.Rows.Order.{lowFirst}
 use Rattle.crc.proofs.Register.{Z, length-run, run-plus}
-use Rattle.crc.proofs.Numbers.{length-bits, number-bits, bits-xor}
+use Rattle.bits.proofs.Numbers.{length-bits, number-bits, bits-xor}
 use Rattle.crc.proofs.Turn.{tableWord}
 use Rattle.crc.proofs.Shifts.{Part, sums, sums-lt}
 use Rattle.crc.proofs.Shifts.Part.{itself, left, right, low}
@@ -40,7 +41,7 @@ zeros-sums =
     (λ a b.
     ap (λ (r : List Bool). run r (zeros 64)) (after-linear 64 a b)
     ∙ run-plus (after 64 a) (after 64 b) (zeros 64) (zeros 64) (length-after 64 a) (length-after 64 b) refl)
-    refl 64 tt
+    refl 64 refl
 
 -- ---- what low_bits works out
 
@@ -58,7 +59,7 @@ bits-sums-lt s h = shr-lt 16 48 (sums-lt 64 wideSums s h)
 pub bits-sums : (s : ℕ) → s < 2 ^ 64 → bitsOf lowFirst 16 (sums 64 bitsSums s) ≡ after 64 s
 bits-sums =
     agreed (λ n. bitsOf lowFirst 16 (sums 64 bitsSums n)) (after 64)
-    (then-linear (bitsOf lowFirst 16) (bits-xor lowFirst 16) 64 bitsSums) (after-linear 64) refl 64 tt
+    (then-linear (bitsOf lowFirst 16) (bits-xor lowFirst 16) 64 bitsSums) (after-linear 64) refl 64 refl
 
 -- ---- what low_octet works out of the register's first 8 bits and the octet: the word that a table would have
 
@@ -68,7 +69,7 @@ octetSums = (itself ∷ left 4 ∷ []) ∷ (low 8 ∷ []) ∷ (left 8 ∷ left 3
 octet-sums : (k : ℕ) → k < 2 ^ 8 → bitsOf lowFirst 16 (sums 16 octetSums k) ≡ after 8 k
 octet-sums =
     agreed (λ n. bitsOf lowFirst 16 (sums 16 octetSums n)) (after 8)
-    (then-linear (bitsOf lowFirst 16) (bits-xor lowFirst 16) 16 octetSums) (after-linear 8) refl 8 tt
+    (then-linear (bitsOf lowFirst 16) (bits-xor lowFirst 16) 16 octetSums) (after-linear 8) refl 8 refl
 
 pub octet-word : (k : ℕ) → k < 2 ^ 8 → sums 16 octetSums k ≡ tableWord lowFirst 8 k
 unfolding tableWord

@@ -7,8 +7,9 @@ use native.Mathlib.Nat.{suc-mul, add-comm}
 use native.Mathlib.Numerals.{add-one}
 use lib.ListN.{length, getD, take, length-append}
 use lib.Seq.{take-suc}
-use Rattle.crc.specs.Check.{ones, run, Order, bitsOf, bitsOfAll, register}
-use Rattle.crc.proofs.Numbers.{length-bits}
+use Rattle.bits.specs.Rows.{ones, Order, bitsOf, bitsOfAll}
+use Rattle.crc.specs.Check.{run, register}
+use Rattle.bits.proofs.Numbers.{length-bits}
 use Rattle.crc.proofs.Register.{run-append, length-run}
 
 -- ---- octets, one more

@@ -6,13 +6,14 @@ use Prim.Native.Nat.{ℕ, _^_, _<_}
 use lib.ListN.{length}
 use lib.Arith.{digits-lt}
 use Rattle.octets.proofs.Laws.{word-high, word-low}
-use Rattle.crc.specs.Check.{plus, zeros, ones, run, Order, bitsOf, numberOf, bitsOfAll, register, octetsOf, wordIn, check}
-use Rattle.crc.specs.Check.Order.{highFirst, lowFirst}
+use Rattle.bits.specs.Rows.{plus, zeros, ones, Order, bitsOf, numberOf, bitsOfAll}
+use Rattle.crc.specs.Check.{run, register, octetsOf, wordIn, check, withCheck}
+use Rattle.bits.specs.Rows.Order.{highFirst, lowFirst}
 use Rattle.crc.specs.Statements.{residue, Own, OnlyOwn, PacketOwn, FrameOwn}
-use Rattle.crc.proofs.Rows.{length-plus, plus-twice}
+use Rattle.bits.proofs.Rows.{length-plus, plus-twice}
 use Rattle.crc.proofs.Register.{Z, length-run}
 use Rattle.crc.proofs.Inverse.{own-row, own-row-back}
-use Rattle.crc.proofs.Numbers.{length-bits, number-bits, bits-number}
+use Rattle.bits.proofs.Numbers.{length-bits, number-bits, bits-number}
 use Rattle.crc.proofs.Octets.{register-append, length-register}
 use Rattle.crc.proofs.Turn.{bits-two}
 
@@ -50,7 +51,7 @@ module _ (o : Order) (m : List Bool) (w : length m ≡ 16) where
       ∙ plus-twice (run Z m) m (length-run Z m refl ∙ sym w)
 
 pub own : Own
-unfolding check residue
+unfolding check residue withCheck
 own o m w octets =
     ap (λ (r : List Bool). numberOf o (plus r m))
     (register-append o octets (octetsOf o (check o m octets))

@@ -1,6 +1,6 @@
 -- A loop over octets, one at a time.
 use mathlib.Core.Path.{_≡_, refl, sym, ap, subst, subst⁻¹, _∙_}
-use mathlib.Core.Bool.{Bool}
+use mathlib.Core.Bool.{Bool, true}
 use mathlib.Core.List.{List}
 use Prim.Native.Nat.{ℕ, _+_, _*_, _/_, _%_, _^_, _≤_, _<_}
 use native.Mathlib.Nat.{mod-eq-of-lt}
@@ -8,13 +8,15 @@ use native.Mathlib.Omega.{arith}
 use lib.ListN.{length, getD, take}
 use lib.Seq.{take-all}
 use lib.Bits.{bitXor, xor-lt, xor-mod}
-use lib.Dec.{T, eqb, eqb→eq}
-use Rattle.crc.specs.Check.{plus, run, Order, bitsOf, numberOf, register, check}
-use Rattle.crc.specs.Check.Order.{highFirst}
-use Rattle.crc.proofs.Numbers.{number-bits, bits-xor}
+use lib.Dec.{eqb}
+use borrow.Author.Tests.{eqb-true}
+use Rattle.bits.specs.Rows.{plus, Order, bitsOf, numberOf}
+use Rattle.crc.specs.Check.{run, register, check}
+use Rattle.bits.specs.Rows.Order.{highFirst}
+use Rattle.bits.proofs.Numbers.{number-bits, bits-xor}
 use Rattle.crc.proofs.Octets.{register-more}
 use Rattle.crc.proofs.Turn.{first, rest, place-lt, Holds, holds-ones, tableWord, word, holds-turn}
-use Rattle.crc.proofs.Table.{every, at}
+use Rattle.crc.proofs.Ruled.{holdsFrom, ruled}
 
 -- i octets have passed: the number s has the register's bits
 pub record Passed (o : Order) (octets : List ℕ) (i s : ℕ) : Type 0 where
@@ -49,10 +51,10 @@ right o k x = eqb x (tableWord o 8 k)
 
 -- i octets have passed, by a table that is right
 pub record Tabled (o : Order) (table octets : List ℕ) (i s : ℕ) : Type 0 where
-  pub words : T (every (right o) 0 table)
+  pub words : holdsFrom (right o) 0 table ≡ true
   pub passed : Passed o octets i s
 
-pub tabled-none : (o : Order) (table octets : List ℕ) → T (every (right o) 0 table) → Tabled o table octets 0 0xffff
+pub tabled-none : (o : Order) (table octets : List ℕ) → holdsFrom (right o) 0 table ≡ true → Tabled o table octets 0 0xffff
 tabled-none o table octets t = record { words = t; passed = record { holds = holds-ones o } }
 
 -- the place in the table that the number s and the octet x say
@@ -66,7 +68,7 @@ module _ {o : Order} {table octets : List ℕ} {i s : ℕ} (p : Tabled o table o
   found : length table ≡ 256 → getD octets i 0 < 256
       → getD table (placeOf o s (getD octets i 0)) 0 ≡ tableWord o 8 (placeOf o s (getD octets i 0))
   unfolding right
-  found n b = eqb→eq _ _ (at (right o) table (p .words) (placeOf o s (getD octets i 0)) (omega (arith, place b)))
+  found n b = eqb-true _ _ (ruled (right o) table (p .words) (placeOf o s (getD octets i 0)) (omega (arith, place b)))
 
   pub table-word : length table ≡ 256 → getD octets i 0 < 256 → getD table (placeOf o s (getD octets i 0)) 0 < 2 ^ 16
   table-word n b = subst⁻¹ (λ (t : ℕ). t < 2 ^ 16) (found n b) (word o 8 (placeOf o s (getD octets i 0)) .fits)

@@ -6,8 +6,9 @@ use Prim.Native.Nat.{ℕ}
 use native.Mathlib.Nat.{suc-inj, suc-ne-zero}
 use lib.ListN.{length}
 use lib.Seq.{append-snoc}
-use Rattle.crc.specs.Check.{_⊕_, plus, zeros, generator, feed, step, run}
-use Rattle.crc.proofs.Rows.{⊕-false, ⊕-swap, plus-comm, plus-assoc, plus-swap, plus-zeros, zeros-plus, length-plus, plus-append, length-zeros, length-snoc}
+use Rattle.bits.specs.Rows.{_⊕_, plus, zeros}
+use Rattle.crc.specs.Check.{generator, feed, step, run}
+use Rattle.bits.proofs.Rows.{⊕-false, ⊕-swap, plus-comm, plus-assoc, plus-swap, plus-zeros, zeros-plus, length-plus, plus-append, length-zeros, length-snoc}
 
 abbrev pub Z : List Bool
 Z = zeros 16

@@ -6,7 +6,7 @@ use native.Mathlib.Nat.{le-of-suc-le-suc, not-suc-le-zero, add-zero, mod-lt, mod
 use lib.Arith.{bin-ind}
 use lib.Pow.{pow-pos}
 use lib.Bits.{bitXor, differ, xor-step, xor-comm, xor-lt, xor-shr, xor-mod, xor-block}
-use Rattle.crc.proofs.Numbers.{two}
+use Rattle.bits.proofs.Numbers.{two}
 
 -- ---- the sum of numbers is associative
 

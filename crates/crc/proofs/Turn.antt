@@ -8,10 +8,11 @@ use lib.ListN.{length}
 use lib.Pow.{pow-pos, shr-lt}
 use lib.Bits.{bitXor, xor-lt}
 use lib.Dec.{lit<}
-use Rattle.crc.specs.Check.{plus, zeros, ones, run, Order, digitsOf, bitsOf, numberOf}
-use Rattle.crc.specs.Check.Order.{highFirst, lowFirst}
+use Rattle.bits.specs.Rows.{plus, zeros, ones, Order, digitsOf, bitsOf, numberOf}
+use Rattle.crc.specs.Check.{run}
+use Rattle.bits.specs.Rows.Order.{highFirst, lowFirst}
 use Rattle.crc.proofs.Register.{split, length-run}
-use Rattle.crc.proofs.Numbers.{bits-number, number-lt, length-bits, bits-xor, bits-cut, bits-high, bits-low, digits-left, digits-small}
+use Rattle.bits.proofs.Numbers.{bits-number, number-lt, length-bits, bits-xor, bits-cut, bits-high, bits-low, digits-left, digits-small}
 
 -- ---- the j bits of a number of k + j bits that travel first, the other k, and the number when the first have gone
 

@@ -1,24 +1,13 @@
 -- What holds of both checks: said once, over the bit order and the mask.
 use mathlib.Core.Path.{_≡_}
-use mathlib.Core.Bool.{Bool}
+use mathlib.Core.Bool.{Bool, false}
 use mathlib.Core.List.{List, [], _∷_, _++_}
-use Prim.Native.Nat.{ℕ, _-_, _≤_, _<_}
-use lib.ListN.{length, take}
+use Prim.Native.Nat.{ℕ, _≤_, _<_}
+use lib.ListN.{length}
 use Rattle.octets.specs.Numbers.{at}
-use Rattle.crc.specs.Check.{plus, zeros, ones, run, Order, numberOf, check, packetCheck, frameCheck, octetsOf, wordIn}
-use Rattle.crc.specs.Check.Order.{highFirst, lowFirst}
-
--- Octets, and behind them their own check.
-abbrev pub withCheck : Order → List Bool → List ℕ → List ℕ
-withCheck o mask octets = octets ++ octetsOf o (check o mask octets)
-
--- All but the last two.
-abbrev pub before : List ℕ → List ℕ
-before octets = take (length octets - 2) octets
-
--- The last two octets are the check of those before them: what a reader tests.
-abbrev pub EndsInCheck : Order → List Bool → List ℕ → Type 0
-EndsInCheck o mask octets = wordIn o (at octets (length octets - 2)) (at octets (length octets - 1)) ≡ check o mask (before octets)
+use Rattle.bits.specs.Rows.{plus, zeros, ones, Order, numberOf}
+use Rattle.crc.specs.Check.{run, check, packetCheck, frameCheck, octetsOf, withCheck, before, checkWrong}
+use Rattle.bits.specs.Rows.Order.{highFirst, lowFirst}
 
 -- Two octets at least.
 pub record Octets (octets : List ℕ) : Type 0 where
@@ -40,19 +29,19 @@ OnlyOwn =
 
 -- A reader finds the check where a writer put it, and what it accepts is what a writer gives.
 abbrev pub Found : Type 0
-Found = (o : Order) (mask : List Bool) (octets : List ℕ) → EndsInCheck o mask (withCheck o mask octets)
+Found = (o : Order) (mask : List Bool) (octets : List ℕ) → checkWrong o mask (withCheck o mask octets) ≡ false
 
 abbrev pub Accepted : Type 0
 Accepted =
     (o : Order) (mask : List Bool) (octets : List ℕ) → Octets octets
-    → EndsInCheck o mask octets → withCheck o mask (before octets) ≡ octets
+    → checkWrong o mask octets ≡ false → withCheck o mask (before octets) ≡ octets
 
 -- To test the last two octets, or the check over all of them for the residue, is the same.
 abbrev pub SameTest : Type 0
 SameTest =
     (o : Order) (mask : List Bool) → length mask ≡ 16 → (octets : List ℕ) → Octets octets
-    → (EndsInCheck o mask octets → check o mask octets ≡ residue o mask)
-    × (check o mask octets ≡ residue o mask → EndsInCheck o mask octets)
+    → (checkWrong o mask octets ≡ false → check o mask octets ≡ residue o mask)
+    × (check o mask octets ≡ residue o mask → checkWrong o mask octets ≡ false)
 
 -- Over a whole packet the check is 0, over a whole frame 0x0F47.
 abbrev pub PacketOwn : Type 0

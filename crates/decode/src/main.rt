@@ -1,4 +1,6 @@
 // The program: a recording on standard input, its listing on standard output.
+use libc::STDIN_FILENO;
+
 fn main() {
-    lister::run();
+    lister::run(b"decode", STDIN_FILENO);
 }

@@ -7,21 +7,22 @@ use native.Mathlib.Omega.{arith}
 use lib.ListN.{length, getD, set, take, drop, replicate, length-map, getD-replicate}
 use lib.Seq.{getD-set-same, getD-set-other, take-append-seam, drop-append-seam}
 use lib.Dec.{eqb}
-use Rattle.octets.specs.Parts.{written}
 use Rattle.answer.specs.Told.{Told}
 use Rattle.frame.specs.declared.Frame.{Frame}
 use Rattle.rules.specs.Channel as rules
 use Rattle.rules.specs.Packets.{bare, joined}
 use Rattle.rules.specs.Bounds.{Under}
-use Rattle.rules.proofs.Step.{step-arrivals}
 use Rattle.session.specs.declared.Session.{Session}
 use Rattle.session.specs.Channel.{view, stored, fresh}
-use Rattle.session.specs.Step.{Accepted, Outcome, channelAt, pieceOf, ruled, accepted, Gives}
+use Rattle.session.specs.declared.Accepted.{Accepted}
+use Rattle.session.specs.Lent.{Lent, laid}
+use Rattle.session.specs.Step.{Outcome, channelAt, ruled, accepted, Gives}
+use Rattle.session.proofs.Few.{ruled-arrivals}
 use Rattle.session.proofs.Staying.{view-stored}
-use Rattle.delivery.specs.Sender.{when}
+use Rattle.sender.specs.Sender.{when}
 use Rattle.delivery.specs.Delivered.{Report}
 use Rattle.delivery.specs.Channels.{report}
-use Rattle.delivery.specs.Run.{Call, pieces, under, took, reportOf}
+use Rattle.delivery.specs.Run.{Call, pieces, readOut, took, reportOf}
 
 -- packets laid end to end, and cut off again by their lengths
 pub pieces-joined : (ps : List (List ℕ)) (xs ys : List ℕ) → pieces (length ps) (joined ps ++ xs) (map length ps ++ ys) ≡ ps
@@ -32,36 +33,35 @@ pieces-joined (p ∷ ps) xs ys =
     let back : drop (length p) ((p ++ joined ps) ++ xs) ≡ joined ps ++ xs = ap (drop (length p)) cut ∙ drop-append-seam p (joined ps ++ xs) in
     rw (front, back, pieces-joined ps xs ys)
 
-abbrev handed : ℕ → List ℕ → rules.Handed
-handed a p = record { arrival = a; packet = p }
+abbrev under : ℕ → List (List ℕ) → List rules.Handed
+under a ps = map (λ (p : List ℕ). rules.given a (rules.heldOf p)) ps
 
-pub under-bare : (a : ℕ) (ps : List rules.Handed) → Under a ps → under a (bare ps) ≡ ps
+under-bare : (a : ℕ) (ps : List rules.Handed) → Under a ps → under a (bare ps) ≡ ps
 under-bare a [] u = refl
 under-bare a (p ∷ ps) u =
-    ap (λ (n : ℕ). handed n (p .packet) ∷ under a (bare ps)) (sym (u .0))
+    ap (λ (n : ℕ). rules.given n (rules.heldOf (p .packet)) ∷ under a (bare ps)) (sym (u .0))
     ∙ ap (λ (l : List rules.Handed). p ∷ l) (under-bare a ps (u .1))
 
--- what an answer and the lent octets and lengths say of channel v
-abbrev pub said : ℕ → Told Accepted → List ℕ → List ℕ → List Report
-said v a octets lengths =
-    when (a .accepted && eqb (a .fields .channel) v)
-    (record { arrival = a .fields .arrival; lost = a .fields .lost; packets = under (a .fields .arrival) (pieces (a .fields .packets) octets lengths) })
+-- packets handed out under one arrival number are read out again
+pub read-back : (a n : ℕ) (ps : List rules.Handed) (l : Lent) → Under a ps → n ≡ length ps → readOut a n (laid ps l) ≡ ps
+read-back a n ps l u e =
+    let count : n ≡ length (bare ps) = e ∙ sym (length-map ps (λ (x : rules.Handed). x .packet)) in
+    ap (λ (k : ℕ). readOut a k (laid ps l)) count ∙ ap (under a) (pieces-joined (bare ps) _ _) ∙ under-bare a ps u
 
-module _ (v : ℕ) (c : Call) (o : Outcome) (g : Gives o (c .result) (c .octets) (c .lengths) (c .octets′) (c .lengths′)) where
-  pub call-says : when (took v c) (reportOf c) ≡ said v (o .answer) (written (o .octets) (c .octets)) (written (o .lengths) (c .lengths))
-  call-says =
-      ap (λ (a : Told Accepted). said v a (c .octets′) (c .lengths′)) (g .answers)
-      ∙ ap (λ (l : List ℕ). said v (o .answer) l (c .lengths′)) (g .octets)
-      ∙ ap (said v (o .answer) (written (o .octets) (c .octets))) (g .lengths)
+-- what an answer and what was lent say of channel v
+abbrev pub said : ℕ → Told Accepted → Lent → List Report
+said v a l =
+    when (a .accepted && eqb (a .fields .channel) v)
+    (record { arrival = a .fields .arrival; lost = a .fields .lost; packets = readOut (a .fields .arrival) (a .fields .packets) l })
+
+module _ (v : ℕ) (c : Call) (o : Outcome) (g : Gives o (c .result) (c .lent) (c .left)) where
+  pub call-says : when (took v c) (reportOf c) ≡ said v (o .answer) (laid (o .packets) (c .lent))
+  call-says = ap (λ (a : Told Accepted). said v a (c .left)) (g .answers) ∙ ap (said v (o .answer)) (g .leaves)
 
 -- ---- the session afterwards
 
 pub fresh-viewed : (v : ℕ) → v < 8 → view (getD (replicate 8 fresh) v fresh) ≡ rules.fresh
 fresh-viewed v l = ap view (getD-replicate 8 v fresh fresh l) ∙ view-stored rules.fresh
-
-pub ruled-arrivals : (s : Session) (f : Frame) (d : List ℕ) → Under (s .arrival) (ruled s f d .packets)
-unfolding ruled
-ruled-arrivals s f d = step-arrivals (s .arrival) (view (channelAt s (f .channel))) (pieceOf f d)
 
 module _ (v : ℕ) (s : Session) (f : Frame) (d : List ℕ) where
   pub accepted-here : f .channel ≡ v → v < length (s .channels) → view (channelAt (accepted s f d .session) v) ≡ ruled s f d .next
@@ -83,15 +83,10 @@ module _ (v : ℕ) (s : Session) (f : Frame) (d : List ℕ) where
   unfolding accepted
   accepted-number = refl
 
-  -- an accepted frame's packets are read back from the lent octets and lengths
-  pub accepted-says : (out list : List ℕ)
-      → said v (accepted s f d .answer) (written (accepted s f d .octets) out) (written (accepted s f d .lengths) list)
-      ≡ when (eqb (f .channel) v) (report (s .arrival) (ruled s f d))
+  -- an accepted frame's packets are read out of what was lent
+  pub accepted-says : (l : Lent)
+      → said v (accepted s f d .answer) (laid (accepted s f d .packets) l) ≡ when (eqb (f .channel) v) (report (s .arrival) (ruled s f d))
   unfolding accepted
-  accepted-says out list =
-      let ps : List rules.Handed = ruled s f d .packets in
-      let count : length ps ≡ length (bare ps) = sym (length-map ps (λ (x : rules.Handed). x .packet)) in
-      let read : under (s .arrival) (pieces (length ps) (written (joined (bare ps)) out) (written (map length (bare ps)) list)) ≡ ps =
-      ap (λ (n : ℕ). under (s .arrival) (pieces n (written (joined (bare ps)) out) (written (map length (bare ps)) list))) count
-      ∙ ap (under (s .arrival)) (pieces-joined (bare ps) _ _) ∙ under-bare (s .arrival) ps (ruled-arrivals s f d) in
-      ap (λ (l : List rules.Handed). when (eqb (f .channel) v) (record { arrival = s .arrival; lost = ruled s f d .lost; packets = l })) read
+  accepted-says l =
+      ap (λ (ps : List rules.Handed). when (eqb (f .channel) v) (record { arrival = s .arrival; lost = ruled s f d .lost; packets = ps }))
+      (read-back (s .arrival) _ (ruled s f d .packets) l (ruled-arrivals s f d) refl)

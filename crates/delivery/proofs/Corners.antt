@@ -1,7 +1,17 @@
 -- The corners, by computing.
 use mathlib.Core.Path.{refl}
-use Rattle.rules.specs.Channel.{standing, push, placeAfter, lengthHolds, enter, follow, lostSince, step}
+use lib.Dec.{lit≤}
+use Rattle.counts.specs.Lost.{lostSince}
+use Rattle.rules.specs.Channel.{standing, push, placeAfter, lengthHolds, enter, follow, step}
+use Rattle.rules.specs.Packets.{Good}
+use Rattle.rules.specs.BothSides.{packetOf}
 use Rattle.delivery.specs.Corners.{Corners}
+
+pub good-16 : Good (packetOf 16 1)
+good-16 = record { least = lit≤ tt; greatest = lit≤ tt; says = refl }
+
+pub good-30 : Good (packetOf 30 2)
+good-30 = record { least = lit≤ tt; greatest = lit≤ tt; says = refl }
 
 pub corners : Corners
 unfolding standing push placeAfter lengthHolds enter follow lostSince step

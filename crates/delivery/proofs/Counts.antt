@@ -7,9 +7,11 @@ use Prim.Native.Nat.{ℕ, zero, suc, _+_, _-_, _%_, _≤_, _<_}
 use native.Mathlib.Omega.{arith}
 use Rattle.counts.specs.Gap.{gap}
 use Rattle.counts.proofs.Laws.{gap-on}
-use Rattle.rules.specs.Channel.{Held, nothing, answer, Piece, Channel, Work, follow, afterLoss, lostSince, step, fresh}
-use Rattle.delivery.specs.Stream.{nextCount}
-use Rattle.delivery.specs.Expected.{Fate, lost, got, piece, oneMore, toldAs, lossesAfter, expectedLosses, AtMost, mostLost}
+use Rattle.counts.specs.Lost.{lostSince}
+use Rattle.rules.specs.Channel.{Held, nothing, answer, Piece, Channel, Work, follow, afterLoss, step, fresh}
+use Rattle.sender.specs.Stream.{nextCount}
+use Rattle.delivery.specs.Link.{Fate, lost, got}
+use Rattle.delivery.specs.Expected.{piece, oneMore, toldAs, lossesAfter, expectedLosses, AtMost, mostLost}
 use Rattle.delivery.specs.Delivered.{Report, losses}
 use Rattle.delivery.specs.Channels.{offered, run}
 

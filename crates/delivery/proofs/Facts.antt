@@ -12,8 +12,9 @@ use Rattle.octets.specs.Numbers.{at}
 use Rattle.rules.specs.Channel.{placeAfter, lengthHolds, lengthIn, fits, pointerTo}
 use Rattle.rules.specs.Packets.{Good, joined}
 use Rattle.rules.proofs.Standing.{Order, upTo, past, order, says}
-use Rattle.delivery.specs.Expected.{Fate, isGot, allGot, nowhere, carries}
-use Rattle.delivery.proofs.Sending.{nextPiece}
+use Rattle.delivery.specs.Link.{Fate}
+use Rattle.delivery.specs.Expected.{isGot, allGot, nowhere, carries}
+use Rattle.sender.proofs.Sending.{nextPiece}
 
 -- ---- rule 3's check passes where nothing was lost
 

@@ -12,8 +12,9 @@ use borrow.Author.Tests.{ne-eqb}
 use Rattle.rules.specs.Channel.{Piece, Held, nothing, Work, feed, holding, outOfStep, follow, enter, fits, pointerTo}
 use Rattle.rules.specs.Packets.{AllGood, joined}
 use Rattle.rules.proofs.Standing.{Order, upTo, past, order}
-use Rattle.delivery.proofs.Sending.{restAfter, packetsAfter}
-use Rattle.delivery.specs.Expected.{Fate, lost, got, isGot, arrivalOf, allGot, arrived, nowhere}
+use Rattle.sender.proofs.Sending.{restAfter, packetsAfter}
+use Rattle.delivery.specs.Link.{Fate, lost, got}
+use Rattle.delivery.specs.Expected.{isGot, arrivalOf, allGot, arrived, nowhere}
 use Rattle.delivery.proofs.Facts.{got-step, drop-get, drop-lt, fits-between, fits-held, not-raw, pointer-none, pointer-some}
 use Rattle.delivery.proofs.Walk.{walk}
 use Rattle.delivery.proofs.Octets.{Begun, Taken, takes, Missed, skip-all, missed-all, left, Skipped, skip-to}

@@ -1,77 +1,77 @@
--- Calls that do what `Session::step` promises, for any frames: one for each, with 501 octets and 16 lengths lent.
+-- Calls that do what is promised, for anything offered: one for each, with 501 octets and 16 lengths lent.
 use mathlib.Core.Path.{_≡_, refl, ap}
 use mathlib.Core.List.{List, [], _∷_, map}
 use mathlib.Core.Bool.{Bool, true, false}
 use Prim.Native.Nat.{ℕ}
 use native.Mathlib.Omega.{arith}
-use lib.ListN.{length, replicate, length-replicate}
-use Rattle.octets.specs.Pick.{pick}
-use Rattle.octets.specs.Parts.{written}
+use lib.ListN.{replicate, length-replicate}
+use Rattle.octets.proofs.Choices.{picks}
 use Rattle.answer.specs.Told.{Told}
 use Rattle.frame.specs.declared.Frame.{Frame}
-use Rattle.frame.specs.Frame.{readFrame, dataOf}
+use Rattle.frame.specs.Frame.{readFrame}
+use Rattle.rules.specs.Limits.{mostPackets, mostOctets}
 use Rattle.session.specs.declared.Session.{Session}
 use Rattle.session.specs.declared.StepAnswer.{StepAnswer}
 use Rattle.session.specs.declared.StepAnswer.the-variants as answer
-use Rattle.session.specs.Step.{Accepted, told, Outcome, counted, accepted, outcome}
-use Rattle.delivery.specs.Run.{Call, Runs, Room, frameOf}
+use Rattle.session.specs.declared.Accepted.{Accepted}
+use Rattle.session.specs.Lent.{Lent, lent, laid}
+use Rattle.session.specs.Step.{told, Outcome, refused, counted, accepted, heeded, outcome, turnedAway}
+use Rattle.session.specs.Statements.{Stretch, found, unread, offered}
+use Rattle.session.proofs.Admitting.{admitted-picks}
+use Rattle.delivery.specs.Run.{Call, Runs, Room, offerOf}
 
 -- the answer that tells this
 abbrev telling : Bool → ℕ → Accepted → StepAnswer
-telling true n a = answer.Accepted (a .arrival) (a .channel) (a .lost) (a .master) (a .packets)
+telling true n a = answer.Accepted a
 telling false n a = answer.Refused n
 
 abbrev Tells : Told Accepted → Type 0
 Tells a = told (telling (a .accepted) (a .refusal) (a .fields)) ≡ a
 
-tells-either : (b : Bool) (x y : Outcome) → Tells (x .answer) → Tells (y .answer) → Tells (pick b x y .answer)
-unfolding pick
-tells-either true x y p q = p
-tells-either false x y p q = q
+abbrev Says : Outcome → Type 0
+Says o = Tells (o .answer)
 
 accepted-tells : (s : Session) (f : Frame) (d : List ℕ) → Tells (accepted s f d .answer)
 unfolding accepted
 accepted-tells s f d = refl
 
-outcome-tells : (s : Session) (frame : List ℕ) (n m : ℕ) → Tells (outcome s frame n m .answer)
-unfolding outcome
-outcome-tells s frame n m =
-    tells-either _ _ _ refl
-    (tells-either _ _ _ refl
-    (tells-either _ _ _ refl
-    (tells-either (readFrame (s .t) frame .accepted) _ _ (accepted-tells (counted s) (readFrame (s .t) frame .fields) (dataOf (readFrame (s .t) frame .fields) frame)) refl)))
+heeded-tells : (s : Session) (frame : List ℕ) → Says (heeded s frame (readFrame (s .t) frame))
+heeded-tells s frame = picks Says (readFrame (s .t) frame .accepted) (accepted s _ _) _ (λ a. accepted-tells s _ _) (λ a. refl)
 
-abbrev zeros : ℕ → List ℕ
-zeros n = replicate n 0
+offer-tells : (s : Session) (x : Stretch) (l : Lent) → Says (offered s x l)
+unfolding outcome turnedAway
+offer-tells s (found x) l = admitted-picks Says s l _ (λ a. heeded-tells (counted s) x) (λ n e. refl)
+offer-tells s (unread n) l = admitted-picks Says s l (refused (counted s) n) (λ a. refl) (λ n e. refl)
 
-module _ (s : Session) (x : List ℕ) where
+abbrev zeros : Lent
+zeros = lent (replicate mostOctets 0) (replicate mostPackets 0)
+
+module _ (s : Session) (x : Stretch) where
   abbrev made : Outcome
-  made = outcome s x (length (zeros 501)) (length (zeros 16))
+  made = offered s x zeros
 
   abbrev calling : Call
   calling = record {
-    frame = x;
-    octets = zeros 501;
-    lengths = zeros 16;
+    offer = x;
+    lent = zeros;
     result = record { session = made .session; answer = telling (made .answer .accepted) (made .answer .refusal) (made .answer .fields) };
-    octets′ = written (made .octets) (zeros 501);
-    lengths′ = written (made .lengths) (zeros 16);
+    left = laid (made .packets) zeros;
   }
 
-abbrev pub callsOf : Session → List (List ℕ) → List Call
+abbrev pub callsOf : Session → List Stretch → List Call
 callsOf s [] = []
 callsOf s (x ∷ xs) = calling s x ∷ callsOf (made s x .session) xs
 
-pub calls-run : (s : Session) (xs : List (List ℕ)) → Runs s (callsOf s xs)
+pub calls-run : (s : Session) (xs : List Stretch) → Runs s (callsOf s xs)
 calls-run s [] = tt
 calls-run s (x ∷ xs) =
-    (record { session = refl; answers = outcome-tells s x (length (zeros 501)) (length (zeros 16)); octets = refl; lengths = refl }, calls-run (made s x .session) xs)
+    (record { session = refl; answers = offer-tells s x zeros; leaves = refl }, calls-run (made s x .session) xs)
 
-pub calls-room : (s : Session) (xs : List (List ℕ)) → Room (callsOf s xs)
+pub calls-room : (s : Session) (xs : List Stretch) → Room (callsOf s xs)
 calls-room s [] = tt
 calls-room s (x ∷ xs) =
-    (omega (arith, length-replicate {A = ℕ} 501 0), omega (arith, length-replicate {A = ℕ} 16 0), calls-room (made s x .session) xs)
+    (record { octets = omega (arith, length-replicate {A = ℕ} mostOctets 0); lengths = omega (arith, length-replicate {A = ℕ} mostPackets 0) }, calls-room (made s x .session) xs)
 
-pub calls-offer : (s : Session) (xs : List (List ℕ)) → map frameOf (callsOf s xs) ≡ xs
+pub calls-offer : (s : Session) (xs : List Stretch) → map offerOf (callsOf s xs) ≡ xs
 calls-offer s [] = refl
-calls-offer s (x ∷ xs) = ap (λ (l : List (List ℕ)). x ∷ l) (calls-offer (made s x .session) xs)
+calls-offer s (x ∷ xs) = ap (λ (l : List Stretch). x ∷ l) (calls-offer (made s x .session) xs)

@@ -1,4 +1,3 @@
-pub mod Sending
 pub mod Facts
 pub mod Counts
 pub mod Walk
@@ -6,13 +5,13 @@ pub mod Octets
 pub mod Following
 pub mod OneChannel
 pub mod Calls
+pub mod FewEach
 pub mod Projection
 pub mod Recording
 pub mod NothingLost
-pub mod FewEach
 pub mod Masters
 pub mod Corners
 pub mod Shams
 pub mod Lending
 pub mod Witness
-pub mod Writing
+pub mod MostLost

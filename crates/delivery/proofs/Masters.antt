@@ -10,26 +10,31 @@ use lib.ListN.{length}
 use lib.Dec.{eqb}
 use borrow.Author.Tests.{ne-eqb}
 use Rattle.octets.specs.Pick.{pick}
+use Rattle.octets.proofs.Choices.{passed}
 use Rattle.answer.specs.Told.{Told, accept}
 use Rattle.answer.specs.Refusals as no
 use Rattle.counts.proofs.Laws.{gap-alone}
 use Rattle.frame.specs.Frame.{readFrame, dataOf}
 use Rattle.frame.proofs.ReadsBack.{reads-back}
-use Rattle.rules.specs.Channel.{lostSince}
+use Rattle.counts.specs.Lost.{lastOf, lostSince}
+use Rattle.rules.specs.Limits.{lastNumber}
 use Rattle.session.specs.declared.Session.{Session}
-use Rattle.session.specs.Channel.{lastOf, unsound}
+use Rattle.session.specs.Channel.{unsound}
 use Rattle.session.specs.Open.{opened}
-use Rattle.session.specs.Step.{Accepted, Outcome, refused, counted, accepted, heeded, outcome, Gives}
-use Rattle.session.proofs.Staying.{Reached, reached-sound, step-reached}
-use Rattle.delivery.specs.Stream.{nextCount}
-use Rattle.delivery.specs.Sender.{Framed, sentOctets, AllWellFormed, Mastered, when}
-use Rattle.delivery.specs.Link.{kept, allFates}
-use Rattle.delivery.specs.Expected.{Loss, oneMore, toldAs, lossesAfter, expectedLosses, AtMost}
-use Rattle.delivery.specs.Run.{Call, Runs, Room, frameOf}
+use Rattle.session.specs.declared.Accepted.{Accepted}
+use Rattle.session.specs.Lent.{Lent, Enough}
+use Rattle.session.specs.Step.{Outcome, refused, counted, accepted, heeded, outcome, turnedAway, Gives}
+use Rattle.session.specs.Statements.{Stretch, found, unread, offered}
+use Rattle.session.proofs.Admitting.{roomy}
+use Rattle.session.proofs.Staying.{opened-sound, counted-sound, offer-stays}
+use Rattle.sender.specs.Stream.{nextCount}
+use Rattle.sender.specs.Sender.{Framed, sentOctets, AllWellFormed, Mastered, when}
+use Rattle.delivery.specs.Link.{Passing, arrives, loses, noise, arriving, allFates}
+use Rattle.delivery.specs.Expected.{LostAt, lostAt, oneMore, toldAs, lossesAfter, expectedLosses, AtMost, mostLost}
+use Rattle.delivery.specs.Run.{Call, Runs, Room, offerOf}
 use Rattle.delivery.specs.Further.{masterLosses, modulo256, MasterLoss, MasterLossExact}
 use Rattle.delivery.proofs.Facts.{nil-cons}
-use Rattle.delivery.proofs.Recording.{opened-reached, opened-runs}
-use Rattle.delivery.proofs.Projection.{roomy}
+use Rattle.delivery.proofs.Recording.{opened-runs}
 
 -- ---- counts
 
@@ -69,18 +74,15 @@ none-arrive last d (f ∷ fs) = none-arrive last (oneMore d) fs
 
 -- ---- a call with a frame of the sender's
 
-abbrev loss : ℕ → ℕ → Loss
-loss a n = record { arrival = a; lost = n }
-
 -- what an answer tells of the master count
-abbrev told : Told Accepted → List Loss
-told a = when (a .accepted) (loss (a .fields .arrival) (a .fields .master))
+abbrev told : Told Accepted → List LostAt
+told a = when (a .accepted) (lostAt (a .fields .arrival) (a .fields .master))
 
 module _ (s : Session) (f : Framed) where
   abbrev taken : Outcome
   taken = accepted (counted s) (f .fields) (f .«data»)
 
-  taken-told : told (taken .answer) ≡ record { arrival = s .arrival + 1; lost = lostSince (lastOf (s .heard) (s .master .0)) (f .fields .master .0) } ∷ []
+  taken-told : told (taken .answer) ≡ lostAt (s .arrival + 1) (lostSince (lastOf (s .heard) (s .master .0)) (f .fields .master .0)) ∷ []
   unfolding accepted
   taken-told = refl
 
@@ -96,45 +98,78 @@ module _ (s : Session) (f : Framed) where
   unfolding accepted
   taken-number = refl
 
-  takes : (t : ℕ) (x : List ℕ) (n m : ℕ) → s .t ≡ t → unsound s ≡ false → 501 ≤ n → 16 ≤ m → eqb (s .arrival) 4294967295 ≡ false
-      → readFrame t x ≡ accept (f .fields) → dataOf (f .fields) x ≡ f .«data» → outcome s x n m ≡ taken
-  unfolding pick
-  takes t x n m e u k l q r d =
-      roomy s x n m k l u
+  takes : (t : ℕ) (x : List ℕ) (l : Lent) → s .t ≡ t → unsound s ≡ false → Enough l → eqb (s .arrival) lastNumber ≡ false
+      → readFrame t x ≡ accept (f .fields) → dataOf (f .fields) x ≡ f .«data» → outcome s x l ≡ taken
+  unfolding pick outcome
+  takes t x l e u k q r d =
+      roomy s l _ k u
       ∙ ap (λ (b : Bool). pick b (refused s no.arrivals) (heeded (counted s) x (readFrame (s .t) x))) q
       ∙ ap (λ (j : ℕ). heeded (counted s) x (readFrame j x)) e
       ∙ ap (heeded (counted s) x) r
       ∙ ap (accepted (counted s) (f .fields)) d
 
+-- ---- a call with a stretch that was refused before any frame could be read
+
+record Turned (s : Session) (c : Call) (cs : List Call) (n : ℕ) : Type 0 where
+  says : masterLosses (c ∷ cs) ≡ masterLosses cs
+  sound : unsound (counted s) ≡ false
+  runs : Runs (counted s) cs
+
+turned : (s : Session) (c : Call) (cs : List Call) (n : ℕ) → c .offer ≡ unread n → unsound s ≡ false → Runs s (c ∷ cs) → Room (c ∷ cs)
+    → s .arrival < lastNumber → Turned s c cs n
+unfolding turnedAway
+turned s c cs n x u w k l =
+    let o : Outcome = refused (counted s) n in
+    let more : eqb (s .arrival) lastNumber ≡ false = ne-eqb (s .arrival) lastNumber (λ z. omega arith) in
+    let is : offered s (c .offer) (c .lent) ≡ o =
+    ap (λ (y : Stretch). offered s y (c .lent)) x ∙ roomy s (c .lent) o (k .0) u ∙ sym (passed (eqb (s .arrival) lastNumber) _ o _ more refl) in
+    let gives : Gives o (c .result) (c .lent) (c .left) = subst (λ (z : Outcome). Gives z (c .result) (c .lent) (c .left)) is (w .0) in
+    record {
+      says = ap (λ (a : Told Accepted). told a ++ masterLosses cs) (gives .answers);
+      sound = counted-sound s u;
+      runs = subst (λ (z : Session). Runs z cs) (gives .session) (w .1);
+    }
+
 -- ---- the whole run
 
+offer-here : (c : Call) (cs : List Call) {y : Stretch} {ys : List Stretch} → map offerOf (c ∷ cs) ≡ y ∷ ys → c .offer ≡ y
+offer-here c cs x = cc
+
+offers-rest : (c : Call) (cs : List Call) {y : Stretch} {ys : List Stretch} → map offerOf (c ∷ cs) ≡ y ∷ ys → map offerOf cs ≡ ys
+offers-rest c cs x = cc
+
 module _ (t : ℕ) where
-  masters : (fs : List Framed) (link : List Bool) (calls : List Call) (s : Session) (d : Option ℕ) (m : ℕ)
-      → Reached s → s .t ≡ t → Runs s calls → Room calls → map frameOf calls ≡ map (sentOctets t) (kept link fs)
-      → AllWellFormed t fs → Mastered m fs → m < 256 → s .arrival + length (kept link fs) ≤ 4294967295
+  masters : (fs : List Framed) (link : List Passing) (calls : List Call) (s : Session) (d : Option ℕ) (m : ℕ)
+      → unsound s ≡ false → s .t ≡ t → Runs s calls → Room calls → map offerOf calls ≡ arriving t link fs
+      → AllWellFormed t fs → Mastered m fs → m < 256 → s .arrival + length (arriving t link fs) ≤ lastNumber
       → Follows (lastOf (s .heard) (s .master .0)) d m
       → masterLosses calls ≡ map modulo256 (lossesAfter d (allFates (s .arrival) link fs))
   masters [] [] [] s d m r e w k x g h l n q = refl
-  masters [] (b ∷ link) [] s d m r e w k x g h l n q = refl
   masters [] [] (c ∷ cs) s d m r e w k x g h l n q = absurd (nil-cons (sym x))
-  masters [] (b ∷ link) (c ∷ cs) s d m r e w k x g h l n q = absurd (nil-cons (sym x))
+  masters [] (arrives ∷ link) calls s d m r e w k x g h l n q = masters [] link calls s d m r e w k x g h l n q
+  masters [] (loses ∷ link) calls s d m r e w k x g h l n q = masters [] link calls s d m r e w k x g h l n q
+  masters fs (noise z ∷ link) [] s d m r e w k x g h l n q = absurd (nil-cons x)
+  masters [] (noise z ∷ link) (c ∷ cs) s d m r e w k x g h l n q =
+      let y : Turned s c cs z = turned s c cs z (offer-here c cs x) r w k (omega arith) in
+      y .says ∙ masters [] link cs (counted s) d m (y .sound) e (y .runs) (k .1) (offers-rest c cs x) g h l (omega arith) q
+  masters (f ∷ fs) (noise z ∷ link) (c ∷ cs) s d m r e w k x g h l n q =
+      let y : Turned s c cs z = turned s c cs z (offer-here c cs x) r w k (omega arith) in
+      y .says ∙ masters (f ∷ fs) link cs (counted s) d m (y .sound) e (y .runs) (k .1) (offers-rest c cs x) g h l (omega arith) q
   masters (f ∷ fs) [] [] s d m r e w k x g h l n q = ap (map modulo256) (sym (none-arrive (s .arrival) d (f ∷ fs)))
   masters (f ∷ fs) [] (c ∷ cs) s d m r e w k x g h l n q = absurd (nil-cons (sym x))
-  masters (f ∷ fs) (false ∷ link) calls s d m r e w k x g h l n q =
+  masters (f ∷ fs) (loses ∷ link) calls s d m r e w k x g h l n q =
       masters fs link calls s (oneMore d) (nextCount m) r e w k x (g .1) (h .1) (omega arith) n
       (follows-lost (lastOf (s .heard) (s .master .0)) d m q)
-  masters (f ∷ fs) (true ∷ link) [] s d m r e w k x g h l n q = absurd (nil-cons x)
-  masters (f ∷ fs) (true ∷ link) (c ∷ cs) s d m r e w k x g h l n q =
-      let here : frameOf c ≡ sentOctets t f = cc in
-      let rest : map frameOf cs ≡ map (sentOctets t) (kept link fs) = cc in
+  masters (f ∷ fs) (arrives ∷ link) [] s d m r e w k x g h l n q = absurd (nil-cons x)
+  masters (f ∷ fs) (arrives ∷ link) (c ∷ cs) s d m r e w k x g h l n q =
+      let here : c .offer ≡ found (sentOctets t f) = offer-here c cs x in
+      let rest : map offerOf cs ≡ arriving t link fs = offers-rest c cs x in
       let b = reads-back (f .fields) t (f .«data») (f .time) (g .0) in
       let o : Outcome = taken s f in
-      let is : outcome s (frameOf c) (length (c .octets)) (length (c .lengths)) ≡ o =
-      takes s f t (frameOf c) (length (c .octets)) (length (c .lengths)) e (reached-sound s r) (k .0) (k .1)
-      (ne-eqb (s .arrival) 4294967295 (λ z. omega arith))
-      (ap (readFrame t) here ∙ b .fields) (ap (dataOf (f .fields)) here ∙ b .«data») in
-      let gives : Gives o (c .result) (c .octets) (c .lengths) (c .octets′) (c .lengths′) =
-      subst (λ (z : Outcome). Gives z (c .result) (c .octets) (c .lengths) (c .octets′) (c .lengths′)) is (w .0) in
+      let is : offered s (c .offer) (c .lent) ≡ o =
+      ap (λ (y : Stretch). offered s y (c .lent)) here
+      ∙ takes s f t (sentOctets t f) (c .lent) e r (k .0) (ne-eqb (s .arrival) lastNumber (λ z. omega arith)) (b .fields) (b .«data») in
+      let gives : Gives o (c .result) (c .lent) (c .left) = subst (λ (z : Outcome). Gives z (c .result) (c .lent) (c .left)) is (w .0) in
       let same : lostSince (lastOf (s .heard) (s .master .0)) (f .fields .master .0) ≡ toldAs d % 256 =
       ap (lostSince (lastOf (s .heard) (s .master .0))) (h .0) ∙ lost-told (lastOf (s .heard) (s .master .0)) d m q in
       let number : o .session .arrival ≡ s .arrival + 1 = taken-number s f in
@@ -144,26 +179,25 @@ module _ (t : ℕ) where
       (subst (λ (j : ℕ). Follows (some (f .fields .master .0)) (some 0) (nextCount j)) (h .0) (follows-got (f .fields .master .0) small)) in
       let ih : masterLosses cs ≡ map modulo256 (lossesAfter (some 0) (allFates (o .session .arrival) link fs)) =
       masters fs link cs (o .session) (some 0) (nextCount m)
-      (subst (λ (z : Outcome). Reached (z .session)) is
-      (step-reached s (record { frame = frameOf c; octets = length (c .octets); lengths = length (c .lengths) }) r))
-      (taken-time s f ∙ e) (subst (λ (z : Session). Runs z cs) (gives .session) (w .1)) (k .2) rest (g .1) (h .1) (omega arith) (omega arith) follows in
+      (subst (λ (z : Outcome). unsound (z .session) ≡ false) is (offer-stays s (c .offer) (c .lent) r .sound))
+      (taken-time s f ∙ e) (subst (λ (z : Session). Runs z cs) (gives .session) (w .1)) (k .1) rest (g .1) (h .1) (omega arith) (omega arith) follows in
       ap (λ (a : Told Accepted). told a ++ masterLosses cs) (gives .answers)
-      ∙ ap (λ (a : List Loss). a ++ masterLosses cs) (taken-told s f)
-      ∙ ap (λ (j : ℕ). loss (s .arrival + 1) j ∷ masterLosses cs) same
-      ∙ ap (λ (a : List Loss). loss (s .arrival + 1) (toldAs d % 256) ∷ a)
+      ∙ ap (λ (a : List LostAt). a ++ masterLosses cs) (taken-told s f)
+      ∙ ap (λ (j : ℕ). lostAt (s .arrival + 1) j ∷ masterLosses cs) same
+      ∙ ap (λ (a : List LostAt). lostAt (s .arrival + 1) (toldAs d % 256) ∷ a)
       (ih ∙ ap (λ (j : ℕ). map modulo256 (lossesAfter (some 0) (allFates j link fs))) number)
 
 pub master-loss : MasterLoss
 master-loss r =
     masters (r .t) (r .frames) (r .link) (r .calls) (opened (r .t) (r .last)) none (r .sender .master)
-    (opened-reached (r .t) (r .last) (r .timeSize)) refl (opened-runs (r .t) (r .last) (r .timeSize) (r .opened) (r .opens) (r .calls) (r .runs)) (r .room)
+    (opened-sound (r .t) (r .last) (r .timeSize)) refl (opened-runs (r .t) (r .last) (r .timeSize) (r .opened) (r .opens) (r .calls) (r .runs)) (r .room)
     (r .offers) (r .sender .wellFormed) (r .sender .masters) (r .sender .small) (r .numbers) tt
 
-all-small : (ls : List Loss) → AtMost 255 ls → map modulo256 ls ≡ ls
+all-small : (ls : List LostAt) → AtMost mostLost ls → map modulo256 ls ≡ ls
 all-small [] a = refl
 all-small (l ∷ ls) a =
-    ap (λ (j : ℕ). loss (l .arrival) j ∷ map modulo256 ls) (mod-eq-of-lt {m = 256} (omega (arith, a .0)))
-    ∙ ap (λ (q : List Loss). l ∷ q) (all-small ls (a .1))
+    ap (λ (j : ℕ). lostAt (l .arrival) j ∷ map modulo256 ls) (mod-eq-of-lt {m = 256} (omega (arith, a .0)))
+    ∙ ap (λ (q : List LostAt). l ∷ q) (all-small ls (a .1))
 
 pub master-loss-exact : MasterLossExact
 master-loss-exact r a = master-loss r ∙ all-small (expectedLosses (allFates (r .last) (r .link) (r .frames))) a

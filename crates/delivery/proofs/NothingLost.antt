@@ -7,9 +7,9 @@ use native.Mathlib.Omega.{arith}
 use lib.ListN.{length, getD, take, drop, length-append, length-drop}
 use borrow.Author.Tests.{le-leb}
 use Rattle.rules.specs.Packets.{bare, joined}
-use Rattle.delivery.specs.Sender.{Framed, when, ofChannel, pieceOf}
-use Rattle.delivery.specs.Link.{kept, fates}
-use Rattle.delivery.specs.Expected.{Fate, lost, got, isGot, allGot, arrived, expectedFrom}
+use Rattle.sender.specs.Sender.{Framed, when, ofChannel, pieceOf}
+use Rattle.delivery.specs.Link.{Fate, lost, got, Passing, arrives, loses, noise, kept, fates}
+use Rattle.delivery.specs.Expected.{isGot, allGot, arrived, expectedFrom}
 use Rattle.delivery.specs.Further.{NothingLost}
 use Rattle.delivery.proofs.Facts.{nil-cons}
 use Rattle.delivery.proofs.Recording.{demand-3}
@@ -36,23 +36,25 @@ all-expected ss g (p ∷ ps) own l =
     rw (le-leb (length p) (length own) (omega arith), ok)
     (ap (λ (qs : List (List ℕ)). p ∷ qs) (all-expected ss g ps (drop (length p) own) (omega (arith, length-drop (length p) own))))
 
-fewer-kept : (link : List Bool) (fs : List Framed) → length (kept link fs) ≤ length fs
+fewer-kept : (link : List Passing) (fs : List Framed) → length (kept link fs) ≤ length fs
 fewer-kept [] fs = omega arith
 fewer-kept (k ∷ link) [] = omega arith
-fewer-kept (true ∷ link) (f ∷ fs) = omega (arith, fewer-kept link fs)
-fewer-kept (false ∷ link) (f ∷ fs) = omega (arith, fewer-kept link fs)
+fewer-kept (arrives ∷ link) (f ∷ fs) = omega (arith, fewer-kept link fs)
+fewer-kept (loses ∷ link) (f ∷ fs) = omega (arith, fewer-kept link fs)
+fewer-kept (noise n ∷ link) (f ∷ fs) = fewer-kept link (f ∷ fs)
 
 got-when : (b : Bool) (s : Fate) (ss : List Fate) → isGot s ≡ true → allGot ss ≡ true → allGot (when b s ++ ss) ≡ true
 got-when true s ss h g = rw (h, g)
 got-when false s ss h g = g
 
-all-got : (v last : ℕ) (link : List Bool) (fs : List Framed) → kept link fs ≡ fs → allGot (fates v last link fs) ≡ true
+all-got : (v last : ℕ) (link : List Passing) (fs : List Framed) → kept link fs ≡ fs → allGot (fates v last link fs) ≡ true
 all-got v last link [] e = refl
 all-got v last [] (f ∷ fs) e = absurd (nil-cons e)
-all-got v last (true ∷ link) (f ∷ fs) e =
+all-got v last (arrives ∷ link) (f ∷ fs) e =
     let rest : kept link fs ≡ fs = cc in
     got-when (ofChannel v f) (got (last + 1) (pieceOf f)) (fates v (last + 1) link fs) refl (all-got v (last + 1) link fs rest)
-all-got v last (false ∷ link) (f ∷ fs) e = absurd (omega (arith, fewer-kept link fs, ap length e))
+all-got v last (loses ∷ link) (f ∷ fs) e = absurd (omega (arith, fewer-kept link fs, ap length e))
+all-got v last (noise n ∷ link) (f ∷ fs) e = all-got v (last + 1) link (f ∷ fs) e
 
 pub nothing-lost : NothingLost
 nothing-lost r e v l sent =

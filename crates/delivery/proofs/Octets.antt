@@ -5,10 +5,11 @@ use mathlib.Core.Bool.{true, false}
 use Prim.Native.Nat.{ℕ, zero, suc, _+_, _≤_, _<_}
 use native.Mathlib.Omega.{arith}
 use lib.ListN.{length, getD, take, drop, length-append, replicate}
-use Rattle.rules.specs.Channel.{Held, nothing, grown, Handed, given, unfinished, whole, standing, push, feed, holding}
+use Rattle.rules.specs.Channel.{heldOf, Held, nothing, grown, Handed, given, unfinished, whole, standing, push, feed, holding}
 use Rattle.rules.specs.Packets.{Good, AllGood, joined}
-use Rattle.delivery.proofs.Sending.{restAfter, packetsAfter}
-use Rattle.delivery.specs.Expected.{Fate, arrivalOf, arrived, nowhere, expectedFrom}
+use Rattle.sender.proofs.Sending.{restAfter, packetsAfter}
+use Rattle.delivery.specs.Link.{Fate}
+use Rattle.delivery.specs.Expected.{arrivalOf, arrived, nowhere, expectedFrom}
 use Rattle.rules.proofs.Standing.{standing-whole, standing-unfinished}
 use Rattle.delivery.proofs.Walk.{walk, begin}
 
@@ -72,7 +73,7 @@ module _ (ss : List Fate) (k a : ℕ) (arr : arrivalOf (getD ss k nowhere) ≡ a
       let g′ : Handed = given a (grown h x) in
       let st : standing h′ ≡ whole = standing-whole h′ [] p (append-nil h′ ∙ e) g refl in
       let t : Taken n nothing [] ps (acc ++ g′ ∷ []) i p = rec nothing [] ps (acc ++ g′ ∷ []) i p gs refl in
-      let is : _≡_ {A = Handed} (record { arrival = a; packet = p }) g′ = rw (← e) in
+      let is : given a (heldOf p) ≡ g′ = rw (← e) in
       record {
         out = g′ ∷ t .out;
         held = t .held;

@@ -8,9 +8,10 @@ use native.Mathlib.Omega.{arith}
 use lib.ListN.{length, take, drop}
 use Rattle.rules.specs.Channel.{Piece, Held, nothing, Handed, Work, follow, pointerTo, fresh}
 use Rattle.rules.specs.Packets.{AllGood, joined}
-use Rattle.delivery.specs.Stream.{Choice, raw, next, nextCount, framesBy}
-use Rattle.delivery.proofs.Sending.{frames-cut, restAfter, packetsAfter, nextPiece, cutInto}
-use Rattle.delivery.specs.Expected.{Fate, lost, got, piece, owners, expectedLosses, AtMost, mostLost, oneMore}
+use Rattle.sender.specs.Stream.{Choice, raw, next, nextCount, framesBy}
+use Rattle.sender.proofs.Sending.{frames-cut, restAfter, packetsAfter, nextPiece, cutInto}
+use Rattle.delivery.specs.Link.{Fate, lost, got}
+use Rattle.delivery.specs.Expected.{piece, owners, expectedLosses, AtMost, mostLost, oneMore}
 use Rattle.delivery.specs.Delivered.{Delivered, handed, losses}
 use Rattle.delivery.specs.Channels.{offered, run}
 use Rattle.delivery.proofs.Facts.{nil-cons, drop-suc, carries-next}

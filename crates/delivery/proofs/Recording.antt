@@ -13,22 +13,26 @@ use Rattle.frame.specs.Frame.{readFrame}
 use Rattle.frame.specs.Back.{ReadBack}
 use Rattle.frame.proofs.ReadsBack.{reads-back}
 use Rattle.frame.proofs.Accepts.{accepts}
+use Rattle.rules.specs.Limits.{lastNumber}
 use Rattle.rules.specs.Channel as rules
 use Rattle.session.specs.declared.Session.{Session}
 use Rattle.session.specs.declared.Opened.{Opened}
+use Rattle.session.specs.Channel.{view}
+use Rattle.session.specs.Step.{channelAt}
+use Rattle.session.specs.Statements.{Stretch, found, unread}
 use Rattle.session.specs.Open.{opened, opening, Opens}
-use Rattle.session.proofs.Staying.{Reached, opening-reached}
-use Rattle.delivery.specs.Sender.{Framed, sentOctets, AllWellFormed, when, ofChannel, pieceOf, piecesOf, Stream}
-use Rattle.delivery.specs.Link.{kept, fates}
-use Rattle.delivery.specs.Expected.{Fate, lost, got, piece}
+use Rattle.session.proofs.Staying.{opened-sound}
+use Rattle.sender.specs.Sender.{Framed, sentOctets, AllWellFormed, when, ofChannel, pieceOf, piecesOf, Stream}
+use Rattle.delivery.specs.Link.{Fate, lost, got, Passing, arrives, loses, noise, arriving, fates}
+use Rattle.delivery.specs.Expected.{piece}
 use Rattle.delivery.specs.Delivered.{Delivered}
-use Rattle.delivery.specs.Run.{Call, Runs, Room, frameOf, reportsOf}
-use Rattle.delivery.specs.Channels.{Offer, offered, run, offerOf, offersOf}
+use Rattle.delivery.specs.Run.{Call, Runs, Room, offerOf, reportsOf}
+use Rattle.delivery.specs.Channels.{Offer, offered, run, readOffer, offerFor, offersOf}
 use Rattle.delivery.specs.Demand.{Demand3}
-use Rattle.delivery.specs.Further.{Independent}
+use Rattle.delivery.specs.Further.{Independent, IndependentFrom}
 use Rattle.delivery.proofs.OneChannel.{AllShort, delivery}
 use Rattle.delivery.proofs.Calls.{fresh-viewed}
-use Rattle.delivery.proofs.Projection.{projects}
+use Rattle.delivery.proofs.Projection.{numbered, projects}
 
 -- ---- fates
 
@@ -37,15 +41,16 @@ when-pieces true p s ss e = ap (λ (q : rules.Piece). q ∷ map piece ss) e
 when-pieces false p s ss e = refl
 
 -- the fates are the frames'
-fates-pieces : (v last : ℕ) (link : List Bool) (fs : List Framed) → map piece (fates v last link fs) ≡ piecesOf v fs
+fates-pieces : (v last : ℕ) (link : List Passing) (fs : List Framed) → map piece (fates v last link fs) ≡ piecesOf v fs
 fates-pieces v last link [] = refl
 fates-pieces v last [] (f ∷ fs) =
     when-pieces (ofChannel v f) (pieceOf f) (lost (pieceOf f)) (fates v last [] fs) refl
     ∙ ap (λ (l : List rules.Piece). when (ofChannel v f) (pieceOf f) ++ l) (fates-pieces v last [] fs)
-fates-pieces v last (true ∷ link) (f ∷ fs) =
+fates-pieces v last (arrives ∷ link) (f ∷ fs) =
     when-pieces (ofChannel v f) (pieceOf f) (got (last + 1) (pieceOf f)) (fates v (last + 1) link fs) refl
     ∙ ap (λ (l : List rules.Piece). when (ofChannel v f) (pieceOf f) ++ l) (fates-pieces v (last + 1) link fs)
-fates-pieces v last (false ∷ link) (f ∷ fs) =
+fates-pieces v last (noise n ∷ link) (f ∷ fs) = fates-pieces v (last + 1) link (f ∷ fs)
+fates-pieces v last (loses ∷ link) (f ∷ fs) =
     when-pieces (ofChannel v f) (pieceOf f) (lost (pieceOf f)) (fates v last link fs) refl
     ∙ ap (λ (l : List rules.Piece). when (ofChannel v f) (pieceOf f) ++ l) (fates-pieces v last link fs)
 
@@ -72,27 +77,31 @@ module _ (t : ℕ) where
       short-when (ofChannel v f) (pieceOf f) (piecesOf v fs) (omega (arith, a .few, a .«data», ap length (r .«data»))) (all-short v fs (w .1))
 
   offer-is : (v a : ℕ) (f : Framed) → ReadBack (f .fields) t (f .«data») (f .time)
-      → offerOf v a (sentOctets t f) (readFrame t (sentOctets t f)) ≡ when (ofChannel v f) (record { arrival = a; frame = pieceOf f })
+      → offerFor t v a (found (sentOctets t f)) ≡ when (ofChannel v f) (record { arrival = a; frame = pieceOf f })
   offer-is v a f r =
-      ap (offerOf v a (sentOctets t f)) (r .fields)
+      ap (readOffer v a (sentOctets t f)) (r .fields)
       ∙ ap (λ (d : List ℕ). when (ofChannel v f) (offer d)) (r .«data»)
     where
       offer : List ℕ → Offer
       offer d = record { arrival = a; frame = record { count = f .fields .count .0; pointer = f .fields .pointer; octets = d } }
 
-  offers-fates : (v last : ℕ) (link : List Bool) (fs : List Framed) → AllWellFormed t fs → last + length (kept link fs) ≤ 4294967295
-      → offersOf t v last (map (sentOctets t) (kept link fs)) ≡ offered (fates v last link fs)
+  offers-fates : (v last : ℕ) (link : List Passing) (fs : List Framed) → AllWellFormed t fs → last + length (arriving t link fs) ≤ lastNumber
+      → offersOf t v last (arriving t link fs) ≡ offered (fates v last link fs)
   offers-fates v last [] [] w n = refl
-  offers-fates v last (k ∷ link) [] w n = refl
   offers-fates v last [] (f ∷ fs) w n =
       offers-fates v last [] fs (w .1) n ∙ sym (offered-lost (ofChannel v f) (pieceOf f) (fates v last [] fs))
-  offers-fates v last (false ∷ link) (f ∷ fs) w n =
+  offers-fates v last (noise m ∷ link) [] w n =
+      numbered t v last (unread m) (arriving t link []) (ne-eqb last lastNumber (λ e. omega arith)) ∙ offers-fates v (last + 1) link [] w (omega arith)
+  offers-fates v last (noise m ∷ link) (f ∷ fs) w n =
+      numbered t v last (unread m) (arriving t link (f ∷ fs)) (ne-eqb last lastNumber (λ e. omega arith)) ∙ offers-fates v (last + 1) link (f ∷ fs) w (omega arith)
+  offers-fates v last (arrives ∷ link) [] w n = offers-fates v last link [] w n
+  offers-fates v last (loses ∷ link) [] w n = offers-fates v last link [] w n
+  offers-fates v last (loses ∷ link) (f ∷ fs) w n =
       offers-fates v last link fs (w .1) n ∙ sym (offered-lost (ofChannel v f) (pieceOf f) (fates v last link fs))
-  offers-fates v last (true ∷ link) (f ∷ fs) w n =
-      let more : eqb last 4294967295 ≡ false = ne-eqb last 4294967295 (λ e. omega arith) in
+  offers-fates v last (arrives ∷ link) (f ∷ fs) w n =
       let r = reads-back (f .fields) t (f .«data») (f .time) (w .0) in
-      sym (passed (eqb last 4294967295) [] _ _ more refl)
-      ∙ ap (λ (l : List Offer). l ++ offersOf t v (last + 1) (map (sentOctets t) (kept link fs))) (offer-is v (last + 1) f r)
+      numbered t v last (found (sentOctets t f)) (arriving t link fs) (ne-eqb last lastNumber (λ e. omega arith))
+      ∙ ap (λ (l : List Offer). l ++ offersOf t v (last + 1) (arriving t link fs)) (offer-is v (last + 1) f r)
       ∙ ap (λ (l : List Offer). when (ofChannel v f) (record { arrival = last + 1; frame = pieceOf f }) ++ l)
       (offers-fates v (last + 1) link fs (w .1) (omega arith))
       ∙ sym (offered-got (ofChannel v f) (last + 1) (pieceOf f) (fates v (last + 1) link fs))
@@ -103,19 +112,16 @@ opening-is : (t last : ℕ) → t ≤ 8 → opening t last .session ≡ opened t
 unfolding opening pick
 opening-is t last l = rw (le-ltb 8 t l)
 
-pub opened-reached : (t last : ℕ) → t ≤ 8 → Reached (opened t last)
-opened-reached t last k = subst Reached (opening-is t last k) (opening-reached t last)
-
 pub opened-runs : (t last : ℕ) → t ≤ 8 → (o : Opened) → Opens t last o → (calls : List Call) → Runs (o .session) calls → Runs (opened t last) calls
 opened-runs t last k o h calls w = subst (λ (z : Session). Runs z calls) (h .session ∙ opening-is t last k) w
 
 -- a run from an opening, for channel v
 pub from-opening : (t last v : ℕ) → t ≤ 8 → v < 8 → (o : Opened) → Opens t last o → (calls : List Call) → Runs (o .session) calls → Room calls
-    → reportsOf v calls ≡ run rules.fresh (offersOf t v last (map frameOf calls))
+    → reportsOf v calls ≡ run rules.fresh (offersOf t v last (map offerOf calls))
 from-opening t last v k l o h calls w room =
-    projects t v calls (opened t last) (record { reached = opened-reached t last k; time = refl; there = l })
+    projects t v calls (opened t last) (record { sound = opened-sound t last k; time = refl; there = l })
     (opened-runs t last k o h calls w) room
-    ∙ ap (λ (c : rules.Channel). run c (offersOf t v last (map frameOf calls))) (fresh-viewed v l)
+    ∙ ap (λ (c : rules.Channel). run c (offersOf t v last (map offerOf calls))) (fresh-viewed v l)
 
 pub independent : Independent
 independent t last last′ v o o′ calls calls′ k l h w room h′ w′ room′ e =
@@ -123,13 +129,20 @@ independent t last last′ v o o′ calls calls′ k l h w room h′ w′ room�
     ∙ ap (run rules.fresh) e
     ∙ sym (from-opening t last′ v k l o′ h′ calls′ w′ room′)
 
+pub independent-from : IndependentFrom
+independent-from s s′ v calls calls′ l l′ u u′ t c w room w′ room′ e =
+    projects (s .t) v calls s (record { sound = u; time = refl; there = l }) w room
+    ∙ ap (run (view (channelAt s v))) e
+    ∙ ap (λ (z : rules.Channel). run z (offersOf (s′ .t) v (s′ .arrival) (map offerOf calls′))) c
+    ∙ sym (projects (s′ .t) v calls′ s′ (record { sound = u′; time = refl; there = l′ }) w′ room′)
+
 pub demand-3 : Demand3
 demand-3 r v l =
     let ss : List Fate = fates v (r .last) (r .link) (r .frames) in
     let s : Stream v (r .frames) = r .sender .streams v l in
     let same : reportsOf v (r .calls) ≡ run rules.fresh (offered ss) =
     from-opening (r .t) (r .last) v (r .timeSize) l (r .opened) (r .opens) (r .calls) (r .runs) (r .room)
-    ∙ ap (λ (xs : List (List ℕ)). run rules.fresh (offersOf (r .t) v (r .last) xs)) (r .offers)
+    ∙ ap (λ (xs : List Stretch). run rules.fresh (offersOf (r .t) v (r .last) xs)) (r .offers)
     ∙ ap (run rules.fresh) (offers-fates (r .t) v (r .last) (r .link) (r .frames) (r .sender .wellFormed) (r .numbers)) in
     let pieces : map piece ss ≡ piecesOf v (r .frames) = fates-pieces v (r .last) (r .link) (r .frames) in
     subst (Delivered (s .packets) ss) (sym same)

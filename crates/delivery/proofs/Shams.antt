@@ -1,29 +1,68 @@
 -- Each sham fails, by computing.
 use mathlib.Core.Path.{_≡_, refl, ap}
-use mathlib.Core.List.{List, []}
+use mathlib.Core.List.{List, [], _∷_}
 use Prim.Native.Nat.{ℕ}
 use native.Mathlib.Omega.{arith}
 use lib.ListN.{length, getD}
-use lib.Dec.{lit≤}
-use Rattle.rules.specs.Channel.{Handed, standing, push, placeAfter, lengthHolds, enter, follow, lostSince, step}
+use lib.Dec.{lit≤, lit<}
+use Rattle.counts.specs.Lost.{lostSince}
+use Rattle.rules.specs.Channel.{Handed, standing, push, placeAfter, lengthHolds, enter, follow, step}
+use Rattle.rules.specs.Packets.{AllGood}
 use Rattle.rules.specs.BothSides.{out}
-use Rattle.delivery.specs.Expected.{Loss}
-use Rattle.delivery.specs.Shams.{Shams}
+use Rattle.sender.specs.Stream.{next}
+use Rattle.delivery.specs.Expected.{LostAt, lostAt}
+use Rattle.delivery.specs.Corners.{two, gap}
+use Rattle.delivery.specs.Shams.{Within, plain, parted, Shams}
+use Rattle.delivery.proofs.Corners.{good-16, good-30}
 
 -- what tells two lists apart: how many, the second's length, its arrival number
 abbrev second : List Handed → Handed
 second ps = getD ps 1 (out 0 [])
 
+two-good : AllGood two
+two-good = (good-16, (good-30, tt))
+
+-- the recordings are within demand 3
+plain-within : Within two plain
+plain-within = record {
+  good = two-good;
+  choices = next 16 ∷ next 30 ∷ [];
+  first = 7;
+  small = lit< tt;
+  sent = refl;
+  gaps = (lit≤ tt, (lit≤ tt, tt));
+}
+
+parted-within : Within two parted
+parted-within = record {
+  good = two-good;
+  choices = next 20 ∷ next 26 ∷ [];
+  first = 7;
+  small = lit< tt;
+  sent = refl;
+  gaps = (lit≤ tt, (lit≤ tt, tt));
+}
+
+gap-within : Within two gap
+gap-within = record {
+  good = two-good;
+  choices = next 10 ∷ next 0 ∷ next 30 ∷ next 6 ∷ [];
+  first = 255;
+  small = lit< tt;
+  sent = refl;
+  gaps = (lit≤ tt, (lit≤ tt, (lit≤ tt, tt)));
+}
+
 pub shams : Shams
 unfolding standing push placeAfter lengthHolds enter follow lostSince step
 shams = record {
-  refuses-all = ((lit≤ tt, (lit≤ tt, tt)), λ d. let z : _≡_ {A = ℕ} 0 2 = ap length (d .handed-out) in omega arith);
-  joins-at-first = ((lit≤ tt, (lit≤ tt, tt)), λ d. let z : _≡_ {A = ℕ} 1 2 = ap length (d .handed-out) in omega arith);
-  invents-losses = ((lit≤ tt, (lit≤ tt, tt)), λ d. let z : _≡_ {A = ℕ} 1 0 = ap (λ (ls : List Loss). getD ls 1 (record { arrival = 0; lost = 0 }) .lost) (d .losses-told) in omega arith);
+  refuses-all = record { within = plain-within; fails = λ d. let z : _≡_ {A = ℕ} 0 2 = ap length (d .handed-out) in omega arith };
+  joins-at-first = record { within = plain-within; fails = λ d. let z : _≡_ {A = ℕ} 1 2 = ap length (d .handed-out) in omega arith };
+  invents-losses = record { within = plain-within; fails = λ d. let z : _≡_ {A = ℕ} 1 0 = ap (λ (ls : List LostAt). getD ls 1 (lostAt 0 0) .lost) (d .losses-told) in omega arith };
   invents-losses-only = refl;
-  holds-across = ((lit≤ tt, (lit≤ tt, (lit≤ tt, tt))), λ d. let z : _≡_ {A = ℕ} 2 1 = ap length (d .handed-out) in omega arith);
+  holds-across = record { within = gap-within; fails = λ d. let z : _≡_ {A = ℕ} 2 1 = ap length (d .handed-out) in omega arith };
   holds-across-only = refl;
-  reads-c = ((lit≤ tt, (lit≤ tt, tt)), λ d. let z : _≡_ {A = ℕ} 9 16 = ap (λ (ps : List Handed). length (getD ps 0 (out 0 []) .packet)) (d .handed-out) in omega arith);
-  stamps-first = ((lit≤ tt, (lit≤ tt, tt)), λ d. let z : _≡_ {A = ℕ} 1 2 = ap (λ (ps : List Handed). second ps .arrival) (d .handed-out) in omega arith);
+  reads-c = record { within = plain-within; fails = λ d. let z : _≡_ {A = ℕ} 9 16 = ap (λ (ps : List Handed). length (getD ps 0 (out 0 []) .packet)) (d .handed-out) in omega arith };
+  stamps-first = record { within = parted-within; fails = λ d. let z : _≡_ {A = ℕ} 1 2 = ap (λ (ps : List Handed). second ps .arrival) (d .handed-out) in omega arith };
   stamps-first-only = refl;
 }

@@ -6,14 +6,15 @@ use Prim.Native.Nat.{ℕ, suc, _-_}
 use native.Mathlib.Omega.{arith}
 use lib.ListN.{length, getD, drop}
 use lib.Dec.{leb, leb·zero, leb·suc-zero, leb·suc-suc}
-use Rattle.rules.specs.Channel.{Handed}
+use Rattle.rules.specs.Channel.{heldOf, Handed, given}
 use Rattle.rules.specs.Packets.{AllGood}
-use Rattle.delivery.specs.Sender.{when}
-use Rattle.delivery.specs.Expected.{Fate, arrivalOf, arrived, nowhere, expectedFrom}
+use Rattle.sender.specs.Sender.{when}
+use Rattle.delivery.specs.Link.{Fate}
+use Rattle.delivery.specs.Expected.{arrivalOf, arrived, nowhere, expectedFrom}
 
 -- the packet p, begun in frame i, was sent in the frames from i to j
 abbrev pub one : List Fate → ℕ → List ℕ → ℕ → List Handed
-one ss i p j = when (arrived ss i j) (record { arrival = arrivalOf (getD ss j nowhere); packet = p })
+one ss i p j = when (arrived ss i j) (given (arrivalOf (getD ss j nowhere)) (heldOf p))
 
 -- the packet p was begun in frame i, r of it is unsent, the packets ps are not begun, and `own` are the owners of what is sent from here on
 abbrev pub walk : List Fate → ℕ → List ℕ → List ℕ → List (List ℕ) → List ℕ → List Handed

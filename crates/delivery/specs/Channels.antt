@@ -7,10 +7,12 @@ use Rattle.octets.specs.Pick.{pick}
 use Rattle.answer.specs.Told.{Told}
 use Rattle.frame.specs.declared.Frame.{Frame}
 use Rattle.frame.specs.Frame.{readFrame, dataOf}
+use Rattle.rules.specs.Limits.{lastNumber}
 use Rattle.rules.specs.Channel.{Piece, Channel, Answer, step}
 use Rattle.session.specs.Step.{pieceOf}
-use Rattle.delivery.specs.Sender.{when}
-use Rattle.delivery.specs.Expected.{Fate, lost, got}
+use Rattle.session.specs.Statements.{Stretch, found, unread}
+use Rattle.sender.specs.Sender.{when}
+use Rattle.delivery.specs.Link.{Fate, lost, got}
 use Rattle.delivery.specs.Delivered.{Report}
 
 pub record Offer : Type 0 where
@@ -35,12 +37,16 @@ runBy by c (o ∷ os) = report (o .arrival) (by (o .arrival) c (o .frame)) ∷ r
 abbrev pub run : Channel → List Offer → List Report
 run c os = runBy step c os
 
--- What of frames offered to a session of this t, the last arrival number used being n, is for channel v: those that the frame reader
--- accepts for it, under their arrival numbers. Once 4,294,967,295 is used, no frame gets a number.
-abbrev pub offerOf : ℕ → ℕ → List ℕ → Told Frame → List Offer
-offerOf v a frame r =
-    when (r .accepted && eqb (r .fields .channel) v) (record { arrival = a; frame = pieceOf (r .fields) (dataOf (r .fields) frame) })
+-- What of all that is offered to a session of this t, the last arrival number used being n, is for channel v: the frames that the frame
+-- reader accepts for it, under their arrival numbers. Once 4,294,967,295 is used, nothing gets a number.
+abbrev pub readOffer : ℕ → ℕ → List ℕ → Told Frame → List Offer
+readOffer v a octets r =
+    when (r .accepted && eqb (r .fields .channel) v) (record { arrival = a; frame = pieceOf (r .fields) (dataOf (r .fields) octets) })
 
-abbrev pub offersOf : ℕ → ℕ → ℕ → List (List ℕ) → List Offer
+abbrev pub offerFor : ℕ → ℕ → ℕ → Stretch → List Offer
+offerFor t v a (found x) = readOffer v a x (readFrame t x)
+offerFor t v a (unread m) = []
+
+abbrev pub offersOf : ℕ → ℕ → ℕ → List Stretch → List Offer
 offersOf t v n [] = []
-offersOf t v n (x ∷ xs) = pick (eqb n 4294967295) [] (offerOf v (n + 1) x (readFrame t x) ++ offersOf t v (n + 1) xs)
+offersOf t v n (x ∷ xs) = pick (eqb n lastNumber) [] (offerFor t v (n + 1) x ++ offersOf t v (n + 1) xs)

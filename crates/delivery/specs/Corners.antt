@@ -5,8 +5,9 @@ use mathlib.Core.List.{List, [], _∷_, _++_}
 use lib.ListN.{replicate}
 use Rattle.rules.specs.Channel.{Piece, fresh}
 use Rattle.rules.specs.BothSides.{packetOf, out}
-use Rattle.delivery.specs.Stream.{Choice, raw, next, framesBy}
-use Rattle.delivery.specs.Expected.{Fate, lost, got, expected, Loss}
+use Rattle.sender.specs.Stream.{Choice, raw, next, framesBy}
+use Rattle.delivery.specs.Link.{Fate, lost, got}
+use Rattle.delivery.specs.Expected.{expected, lostAt}
 use Rattle.delivery.specs.Delivered.{handed, losses, Delivered}
 use Rattle.delivery.specs.Channels.{offered, run}
 
@@ -27,9 +28,6 @@ sentBy count ps choices numbers = linked numbers (framesBy ps 0 count choices)
 abbrev pub two : List (List ℕ)
 two = packetOf 16 1 ∷ packetOf 30 2 ∷ []
 
-abbrev pub loss : ℕ → ℕ → Loss
-loss a n = record { arrival = a; lost = n }
-
 -- An empty frame is lost inside the first packet.
 abbrev pub gap : List Fate
 gap = sentBy 255 two (next 10 ∷ next 0 ∷ next 30 ∷ next 6 ∷ []) (1 ∷ 0 ∷ 2 ∷ 3 ∷ [])
@@ -39,8 +37,11 @@ abbrev pub raws : List Fate
 raws = sentBy 255 two (next 10 ∷ raw (9 ∷ 9 ∷ []) ∷ next 20 ∷ raw (9 ∷ []) ∷ next 16 ∷ []) (1 ∷ 2 ∷ 3 ∷ 0 ∷ 4 ∷ [])
 
 -- 255 empty frames are lost inside the first packet; and 256.
+abbrev pub manyEmpty : ℕ → List Choice
+manyEmpty n = next 10 ∷ replicate n (next 0) ++ next 30 ∷ next 6 ∷ []
+
 abbrev pub many : ℕ → List Fate
-many n = sentBy 3 two (next 10 ∷ replicate n (next 0) ++ next 30 ∷ next 6 ∷ []) (1 ∷ replicate n 0 ++ 2 ∷ 3 ∷ [])
+many n = sentBy 3 two (manyEmpty n) (1 ∷ replicate n 0 ++ 2 ∷ 3 ∷ [])
 
 -- The first packet ends with its frame; the second's header is split over frames of 3, 1 and 2 octets; the last frame takes what is left.
 abbrev pub split : List Fate
@@ -53,12 +54,12 @@ ends = sentBy 0 two (next 3 ∷ next 20 ∷ next 3 ∷ []) (0 ∷ 1 ∷ 2 ∷ []
 pub record Corners : Type 0 where
   pub gap-right : Delivered two gap (run fresh (offered gap))
   pub gap-packets : expected two gap ≡ out 3 (packetOf 30 2) ∷ []
-  pub gap-losses : losses (run fresh (offered gap)) ≡ loss 1 0 ∷ loss 2 1 ∷ loss 3 0 ∷ []
+  pub gap-losses : losses (run fresh (offered gap)) ≡ lostAt 1 0 ∷ lostAt 2 1 ∷ lostAt 3 0 ∷ []
   pub raws-right : Delivered two raws (run fresh (offered raws))
   pub raws-packets : expected two raws ≡ out 3 (packetOf 16 1) ∷ []
   pub many-right : Delivered two (many 255) (run fresh (offered (many 255)))
   pub many-packets : expected two (many 255) ≡ out 3 (packetOf 30 2) ∷ []
-  pub many-losses : losses (run fresh (offered (many 255))) ≡ loss 1 0 ∷ loss 2 255 ∷ loss 3 0 ∷ []
+  pub many-losses : losses (run fresh (offered (many 255))) ≡ lostAt 1 0 ∷ lostAt 2 255 ∷ lostAt 3 0 ∷ []
   pub split-right : Delivered two split (run fresh (offered split))
   pub split-packets : expected two split ≡ out 1 (packetOf 16 1) ∷ out 5 (packetOf 30 2) ∷ []
   pub ends-right : Delivered two ends (run fresh (offered ends))

@@ -3,7 +3,8 @@ use Prim.Native.Nat.{ℕ}
 use mathlib.Core.Path.{_≡_}
 use mathlib.Core.List.{List, [], _∷_, _++_}
 use Rattle.rules.specs.Channel.{Handed}
-use Rattle.delivery.specs.Expected.{Fate, expected, Loss, expectedLosses}
+use Rattle.delivery.specs.Link.{Fate}
+use Rattle.delivery.specs.Expected.{expected, LostAt, lostAt, expectedLosses}
 
 -- What is said at an arrival on the channel: the arrival number, the lost frames and the packets handed out.
 pub record Report : Type 0 where
@@ -15,9 +16,9 @@ abbrev pub handed : List Report → List Handed
 handed [] = []
 handed (r ∷ rs) = r .packets ++ handed rs
 
-abbrev pub losses : List Report → List Loss
+abbrev pub losses : List Report → List LostAt
 losses [] = []
-losses (r ∷ rs) = record { arrival = r .arrival; lost = r .lost } ∷ losses rs
+losses (r ∷ rs) = lostAt (r .arrival) (r .lost) ∷ losses rs
 
 -- Demand 3's conclusion, of a channel whose sender had these packets and whose frames had these fates.
 pub record Delivered (packets : List (List ℕ)) (fates : List Fate) (reports : List Report) : Type 0 where

@@ -2,41 +2,42 @@
 use Prim.Native.Nat.{ℕ, _+_, _≤_, _<_}
 use mathlib.Core.Path.{_≡_}
 use mathlib.Core.List.{List, map}
-use mathlib.Core.Bool.{Bool}
 use lib.ListN.{length}
+use Rattle.frame.specs.Limits.{longestTime}
+use Rattle.rules.specs.Limits.{virtualChannels, lastNumber}
 use Rattle.session.specs.declared.Opened.{Opened}
 use Rattle.session.specs.Open.{Opens}
-use Rattle.delivery.specs.Sender.{Framed, sentOctets, Sender}
-use Rattle.delivery.specs.Link.{kept, fates}
+use Rattle.sender.specs.Sender.{Framed, Sender}
+use Rattle.delivery.specs.Link.{Passing, arriving, fates}
 use Rattle.delivery.specs.Expected.{expectedLosses, AtMost, mostLost}
 use Rattle.delivery.specs.Delivered.{Delivered}
-use Rattle.delivery.specs.Run.{Call, Runs, Room, frameOf, reportsOf}
+use Rattle.delivery.specs.Run.{Call, Runs, Room, offerOf, reportsOf}
 
 pub record Reception : Type 0 where
   -- Let a sender by the rules cut packets of 16 to 251 octets into frames, all of one time size.
   pub t : ℕ
   pub frames : List Framed
   pub sender : Sender t frames
-  -- The link may lose frames but not alter, repeat or reorder them.
-  pub link : List Bool
+  -- The link may lose frames but not alter, repeat or reorder them; stretches between them may be refused before any frame is read.
+  pub link : List Passing
   -- One fresh session of the right time size, as `Session::open` promises it, under any last arrival number used (0: a fresh one).
-  pub timeSize : t ≤ 8
+  pub timeSize : t ≤ longestTime
   pub last : ℕ
   pub opened : Opened
   pub opens : Opens t last opened
   -- The link loses at most 255 of a channel's frames between two arrivals on it.
-  pub gaps : (v : ℕ) → v < 8 → AtMost mostLost (expectedLosses (fates v last link frames))
+  pub gaps : (v : ℕ) → v < virtualChannels → AtMost mostLost (expectedLosses (fates v last link frames))
   -- The session is offered the rest: the octets that the frame writer gives, each by a call that does what `Session::step` promises.
   pub calls : List Call
-  pub offers : map frameOf calls ≡ map (sentOctets t) (kept link frames)
+  pub offers : map offerOf calls ≡ arriving t link frames
   pub runs : Runs (opened .session) calls
   -- With numbers and room to spare.
-  pub numbers : last + length (kept link frames) ≤ 4294967295
+  pub numbers : last + length (arriving t link frames) ≤ lastNumber
   pub room : Room calls
 
 -- On each of the eight channels, what is read from the lent octets and lengths and from the answers is what is expected: exactly the
 -- packets for which every frame of the channel from first octet to last arrived, unchanged, in order and once each, with the arrival
 -- number of the frame that held the last octet; and how many of the channel's frames were lost since the arrival before.
 abbrev pub Demand3 : Type 0
-Demand3 = (r : Reception) (v : ℕ) (l : v < 8)
+Demand3 = (r : Reception) (v : ℕ) (l : v < virtualChannels)
     → Delivered (r .sender .streams v l .packets) (fates v (r .last) (r .link) (r .frames)) (reportsOf v (r .calls))

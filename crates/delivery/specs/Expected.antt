@@ -6,13 +6,10 @@ use mathlib.Core.Option.{Option, none, some}
 use lib.ListN.{length, getD, drop, replicate}
 use lib.Seq.{slice}
 use lib.Dec.{leb, eqb}
-use Rattle.rules.specs.Channel.{Piece, Handed}
-use Rattle.delivery.specs.Sender.{when}
-
--- A frame of the channel as sent, with its fate: lost, or offered to the session under an arrival number.
-pub data Fate : Type 0 where
-  lost : Piece → Fate
-  got : ℕ → Piece → Fate
+use Rattle.frame.specs.Limits.{rawData, noneStarts}
+use Rattle.rules.specs.Channel.{Piece, heldOf, Handed, given}
+use Rattle.sender.specs.Sender.{when}
+use Rattle.delivery.specs.Link.{Fate, lost, got}
 
 abbrev pub piece : Fate → Piece
 piece (lost f) = f
@@ -28,11 +25,11 @@ arrivalOf (got a f) = a
 
 -- Beyond the last frame.
 abbrev pub nowhere : Fate
-nowhere = lost (record { count = 0; pointer = 255; octets = [] })
+nowhere = lost (record { count = 0; pointer = noneStarts; octets = [] })
 
 -- How many octets of packets a frame carries: none if it is raw.
 abbrev pub carries : Piece → ℕ
-carries f = cond (eqb (f .pointer) 254) 0 (length (f .octets))
+carries f = cond (eqb (f .pointer) rawData) 0 (length (f .octets))
 
 -- For each octet of the channel's packets, as far as sent, the number of the frame that carries it; the first frame is number i.
 abbrev pub owners : ℕ → List Fate → List ℕ
@@ -54,7 +51,7 @@ expectedFrom ss [] owns = []
 expectedFrom ss (p ∷ ps) owns =
     cond (leb (length p) (length owns))
     (when (arrived ss (getD owns 0 0) (getD owns (length p - 1) 0))
-    (record { arrival = arrivalOf (getD ss (getD owns (length p - 1) 0) nowhere); packet = p })
+    (given (arrivalOf (getD ss (getD owns (length p - 1) 0) nowhere)) (heldOf p))
     ++ expectedFrom ss ps (drop (length p) owns))
     []
 
@@ -62,9 +59,12 @@ abbrev pub expected : List (List ℕ) → List Fate → List Handed
 expected ps ss = expectedFrom ss ps (owners 0 ss)
 
 -- At an arrival, how many frames were lost since the arrival before.
-pub record Loss : Type 0 where
+pub record LostAt : Type 0 where
   pub arrival : ℕ
   pub lost : ℕ
+
+abbrev pub lostAt : ℕ → ℕ → LostAt
+lostAt a n = record { arrival = a; lost = n }
 
 -- Lost so far since the last arrival, if there was one.
 abbrev pub oneMore : Option ℕ → Option ℕ
@@ -76,15 +76,15 @@ abbrev pub toldAs : Option ℕ → ℕ
 toldAs none = 0
 toldAs (some n) = n
 
-abbrev pub lossesAfter : Option ℕ → List Fate → List Loss
+abbrev pub lossesAfter : Option ℕ → List Fate → List LostAt
 lossesAfter so [] = []
 lossesAfter so (lost f ∷ ss) = lossesAfter (oneMore so) ss
-lossesAfter so (got a f ∷ ss) = record { arrival = a; lost = toldAs so } ∷ lossesAfter (some 0) ss
+lossesAfter so (got a f ∷ ss) = lostAt a (toldAs so) ∷ lossesAfter (some 0) ss
 
-abbrev pub expectedLosses : List Fate → List Loss
+abbrev pub expectedLosses : List Fate → List LostAt
 expectedLosses ss = lossesAfter none ss
 
-abbrev pub AtMost : ℕ → List Loss → Type 0
+abbrev pub AtMost : ℕ → List LostAt → Type 0
 AtMost m [] = Unit {0}
 AtMost m (l ∷ ls) = (l .lost ≤ m) × AtMost m ls
 

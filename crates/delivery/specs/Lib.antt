@@ -1,5 +1,3 @@
-pub mod Stream
-pub mod Sender
 pub mod Link
 pub mod Expected
 pub mod Delivered
@@ -10,3 +8,4 @@ pub mod Further
 pub mod Corners
 pub mod Shams
 pub mod Witness
+pub mod MostLost

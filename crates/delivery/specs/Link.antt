@@ -1,27 +1,50 @@
 -- 3. The link: it may lose frames, but not alter, repeat or reorder them.
 use Prim.Native.Nat.{ℕ, _+_}
 use mathlib.Core.List.{List, [], _∷_, _++_}
-use mathlib.Core.Bool.{Bool, true, false}
-use Rattle.delivery.specs.Sender.{Framed, when, ofChannel, pieceOf}
-use Rattle.delivery.specs.Expected.{Fate, lost, got}
+use mathlib.Core.Bool.{Bool, true}
+use Rattle.rules.specs.Channel.{Piece}
+use Rattle.session.specs.Statements.{Stretch, found, unread}
+use Rattle.sender.specs.Sender.{Framed, sentOctets, when, ofChannel, pieceOf}
 
--- The frames that arrive: true for one that does; beyond the link's end all are lost.
-abbrev pub kept : List Bool → List Framed → List Framed
+-- A frame as sent, with its fate: lost, or offered to the session under an arrival number.
+pub data Fate : Type 0 where
+  lost : Piece → Fate
+  got : ℕ → Piece → Fate
+
+-- What the link does next: the next frame arrives, or is lost, or there is a stretch that is refused with a number before any frame
+-- could be read.
+pub data Passing : Type 0 where
+  arrives loses : Passing
+  noise : ℕ → Passing
+
+-- The frames that arrive; beyond the link's end all are lost.
+abbrev pub kept : List Passing → List Framed → List Framed
 kept [] frames = []
-kept (arrives ∷ link) [] = []
-kept (true ∷ link) (f ∷ frames) = f ∷ kept link frames
-kept (false ∷ link) (f ∷ frames) = kept link frames
+kept (p ∷ link) [] = []
+kept (arrives ∷ link) (f ∷ frames) = f ∷ kept link frames
+kept (loses ∷ link) (f ∷ frames) = kept link frames
+kept (noise n ∷ link) (f ∷ frames) = kept link (f ∷ frames)
 
--- The fates of the frames that `which` picks out. The frames that arrive, of all channels, take the arrival numbers from last + 1 on.
-abbrev pub fatesOf : (Framed → Bool) → ℕ → List Bool → List Framed → List Fate
+-- What is offered to a session: the octets of the frames that arrive, all of time size t, and the stretches between them.
+abbrev pub arriving : ℕ → List Passing → List Framed → List Stretch
+arriving t [] frames = []
+arriving t (noise n ∷ link) frames = unread n ∷ arriving t link frames
+arriving t (arrives ∷ link) [] = arriving t link []
+arriving t (arrives ∷ link) (f ∷ frames) = found (sentOctets t f) ∷ arriving t link frames
+arriving t (loses ∷ link) [] = arriving t link []
+arriving t (loses ∷ link) (f ∷ frames) = arriving t link frames
+
+-- The fates of the frames that `which` picks out. All that is offered takes the arrival numbers from last + 1 on.
+abbrev pub fatesOf : (Framed → Bool) → ℕ → List Passing → List Framed → List Fate
 fatesOf which last link [] = []
 fatesOf which last [] (f ∷ frames) = when (which f) (lost (pieceOf f)) ++ fatesOf which last [] frames
-fatesOf which last (true ∷ link) (f ∷ frames) = when (which f) (got (last + 1) (pieceOf f)) ++ fatesOf which (last + 1) link frames
-fatesOf which last (false ∷ link) (f ∷ frames) = when (which f) (lost (pieceOf f)) ++ fatesOf which last link frames
+fatesOf which last (arrives ∷ link) (f ∷ frames) = when (which f) (got (last + 1) (pieceOf f)) ++ fatesOf which (last + 1) link frames
+fatesOf which last (loses ∷ link) (f ∷ frames) = when (which f) (lost (pieceOf f)) ++ fatesOf which last link frames
+fatesOf which last (noise n ∷ link) (f ∷ frames) = fatesOf which (last + 1) link (f ∷ frames)
 
 -- Those of channel v, and those of all channels.
-abbrev pub fates : ℕ → ℕ → List Bool → List Framed → List Fate
+abbrev pub fates : ℕ → ℕ → List Passing → List Framed → List Fate
 fates v last link frames = fatesOf (ofChannel v) last link frames
 
-abbrev pub allFates : ℕ → List Bool → List Framed → List Fate
+abbrev pub allFates : ℕ → List Passing → List Framed → List Fate
 allFates last link frames = fatesOf (λ f. true) last link frames

@@ -1,38 +1,40 @@
--- 6. The session's run: calls of `Session::step`, and what is read from the lent octets and lengths after each.
-use Prim.Native.Nat.{ℕ, zero, suc, _≤_}
+-- 6. The session's run: its calls, and what is read from the lent octets and lengths after each.
+use Prim.Native.Nat.{ℕ, zero, suc}
 use mathlib.Core.List.{List, [], _∷_, _++_, map}
 use mathlib.Core.Bool.{Bool, _&&_}
-use lib.ListN.{length, take, drop}
+use lib.ListN.{take, drop}
 use lib.Dec.{eqb}
 use Rattle.answer.specs.Told.{Told}
-use Rattle.rules.specs.Channel.{Handed}
+use Rattle.rules.specs.Channel.{heldOf, Handed, given}
 use Rattle.session.specs.declared.Session.{Session}
 use Rattle.session.specs.declared.Stepped.{Stepped}
-use Rattle.session.specs.Step.{Accepted, told, Steps}
-use Rattle.delivery.specs.Sender.{when}
+use Rattle.session.specs.declared.Accepted.{Accepted}
+use Rattle.session.specs.Lent.{Lent, Enough}
+use Rattle.session.specs.Step.{told, Gives}
+use Rattle.session.specs.Statements.{Stretch, offered}
+use Rattle.sender.specs.Sender.{when}
 use Rattle.delivery.specs.Delivered.{Report}
 
--- One call: the frame's octets, the octets and lengths lent, the result, and the octets and lengths as it left them.
+-- One call: what was offered, what was lent, the result, and what was lent as the call left it.
 pub record Call : Type 0 where
-  pub frame : List ℕ
-  pub octets : List ℕ
-  pub lengths : List ℕ
+  pub offer : Stretch
+  pub lent : Lent
   pub result : Stepped
-  pub octets′ : List ℕ
-  pub lengths′ : List ℕ
+  pub left : Lent
 
--- Each call did what `Session::step` promises, on the session that the call before gave; the first on s.
+-- Each call did what `Session::step` promises for a frame's octets (`Steps`), or `Session::turn_away` for a stretch that was refused
+-- before (`TurnsAway`), on the session that the call before gave; the first on s.
 abbrev pub Runs : Session → List Call → Type 0
 Runs s [] = Unit {0}
-Runs s (c ∷ cs) = Steps s (c .frame) (c .octets) (c .lengths) (c .result) (c .octets′) (c .lengths′) × Runs (c .result .session) cs
+Runs s (c ∷ cs) = Gives (offered s (c .offer) (c .lent)) (c .result) (c .lent) (c .left) × Runs (c .result .session) cs
 
 -- Enough was lent to each.
 abbrev pub Room : List Call → Type 0
 Room [] = Unit {0}
-Room (c ∷ cs) = (501 ≤ length (c .octets)) × (16 ≤ length (c .lengths)) × Room cs
+Room (c ∷ cs) = Enough (c .lent) × Room cs
 
-abbrev pub frameOf : Call → List ℕ
-frameOf c = c .frame
+abbrev pub offerOf : Call → Stretch
+offerOf c = c .offer
 
 abbrev pub answerOf : Call → Told Accepted
 answerOf c = told (c .result .answer)
@@ -43,20 +45,16 @@ pieces zero octets lengths = []
 pieces (suc n) octets [] = []
 pieces (suc n) octets (l ∷ lengths) = take l octets ∷ pieces n (drop l octets) lengths
 
-abbrev pub packetsOf : Call → List (List ℕ)
-packetsOf c = pieces (answerOf c .fields .packets) (c .octets′) (c .lengths′)
+-- The n packets that were handed out under the arrival number a.
+abbrev pub readOut : ℕ → ℕ → Lent → List Handed
+readOut a n l = map (λ (p : List ℕ). given a (heldOf p)) (pieces n (l .octets) (l .lengths))
 
--- Packets under one arrival number.
-abbrev pub under : ℕ → List (List ℕ) → List Handed
-under a ps = map (λ (p : List ℕ). record { arrival = a; packet = p }) ps
+abbrev pub packetsOf : Call → List Handed
+packetsOf c = readOut (answerOf c .fields .arrival) (answerOf c .fields .packets) (c .left)
 
 -- What an accepted call says of its channel, master loss aside.
 abbrev pub reportOf : Call → Report
-reportOf c = record {
-  arrival = answerOf c .fields .arrival;
-  lost = answerOf c .fields .lost;
-  packets = under (answerOf c .fields .arrival) (packetsOf c);
-}
+reportOf c = record { arrival = answerOf c .fields .arrival; lost = answerOf c .fields .lost; packets = packetsOf c }
 
 -- Whether a call took a frame of channel v.
 abbrev pub took : ℕ → Call → Bool

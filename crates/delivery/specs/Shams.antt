@@ -1,5 +1,5 @@
 -- 11. Shams: second definitions of what comes of a channel's frames, each with a recording on which demand 3's conclusion fails of it.
-use Prim.Native.Nat.{ℕ, zero, suc}
+use Prim.Native.Nat.{ℕ, zero, suc, _<_}
 use mathlib.Core.Path.{_≡_}
 use mathlib.Core.List.{List, [], _∷_, map}
 use mathlib.Core.Bool.{cond, _||_}
@@ -7,16 +7,30 @@ use mathlib.Core.Option.{Option, none, some}
 use lib.ListN.{length, take, drop}
 use lib.Dec.{ltb}
 use Rattle.octets.specs.Numbers.{at, word}
-use Rattle.rules.specs.Channel.{Handed, Channel, fresh, answer, step, lostSince, follow, afterLoss}
-use Rattle.delivery.specs.Stream.{next}
-use Rattle.delivery.specs.Expected.{Fate, expected, expectedLosses, AtMost, mostLost}
+use Rattle.counts.specs.Lost.{lostSince}
+use Rattle.rules.specs.Channel.{heldOf, Handed, given, Channel, fresh, answer, step, follow, afterLoss}
+use Rattle.rules.specs.Packets.{AllGood}
+use Rattle.sender.specs.Stream.{Choice, next, framesBy}
+use Rattle.delivery.specs.Link.{Fate}
+use Rattle.delivery.specs.Expected.{piece, expected, expectedLosses, AtMost, mostLost}
 use Rattle.delivery.specs.Delivered.{Report, handed, losses, Delivered}
 use Rattle.delivery.specs.Channels.{Offer, offered, runBy, report}
 use Rattle.delivery.specs.Corners.{sentBy, two, gap}
 
--- A recording within demand 3 (at most 255 lost between two arrivals) on which the conclusion fails.
-abbrev pub Fails : (List Offer → List Report) → List (List ℕ) → List Fate → Type 0
-Fails sham ps ss = AtMost mostLost (expectedLosses ss) × (Delivered ps ss (sham (offered ss)) → ⊥)
+-- A recording within demand 3: packets of 16 to 251 octets, cut by some choices from some count on, and at most 255 frames lost between
+-- two arrivals.
+pub record Within (packets : List (List ℕ)) (fates : List Fate) : Type 0 where
+  pub good : AllGood packets
+  pub choices : List Choice
+  pub first : ℕ
+  pub small : first < 256
+  pub sent : map piece fates ≡ framesBy packets 0 first choices
+  pub gaps : AtMost mostLost (expectedLosses fates)
+
+-- On it the conclusion fails.
+pub record Fails (sham : List Offer → List Report) (packets : List (List ℕ)) (fates : List Fate) : Type 0 where
+  pub within : Within packets fates
+  pub fails : Delivered packets fates (sham (offered fates)) → ⊥
 
 -- Each packet in a frame of its own, nothing lost; and the second packet in two frames.
 abbrev pub plain : List Fate
@@ -62,14 +76,14 @@ readsC os =
     map (λ (o : Offer). record {
       arrival = o .arrival;
       lost = 0;
-      packets = map (λ (p : List ℕ). record { arrival = o .arrival; packet = p }) (cutByC 16 (drop (o .frame .pointer) (o .frame .octets)));
+      packets = map (λ (p : List ℕ). given (o .arrival) (heldOf p)) (cutByC 16 (drop (o .frame .pointer) (o .frame .octets)));
     }) os
 
 -- It gives a packet the arrival of its first octet: `since` is when what is held was begun.
 abbrev pub restamped : ℕ → List ℕ → List Handed → List Handed
 restamped since [] ps = ps
 restamped since (x ∷ held) [] = []
-restamped since (x ∷ held) (p ∷ ps) = record { arrival = since; packet = p .packet } ∷ ps
+restamped since (x ∷ held) (p ∷ ps) = given since (heldOf (p .packet)) ∷ ps
 
 abbrev pub begunAt : ℕ → ℕ → List ℕ → List Handed → ℕ
 begunAt since a [] ps = a

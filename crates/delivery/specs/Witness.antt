@@ -1,20 +1,21 @@
--- 12. A recording of two channels with losses, of which the top statement speaks: it is not about nothing.
+-- 12. A recording of two channels, each with a loss, of which the top statement speaks: it is not about nothing.
 use Prim.Native.Nat.{ℕ, _+_}
 use mathlib.Core.Path.{_≡_}
 use mathlib.Core.List.{List, [], _∷_}
-use mathlib.Core.Bool.{Bool, true, false}
+use mathlib.Core.Bool.{false}
 use lib.ListN.{length}
 use Rattle.frame.specs.declared.Address.{Address}
 use Rattle.rules.specs.Channel.{Piece}
 use Rattle.rules.specs.BothSides.{packetOf, out}
-use Rattle.delivery.specs.Stream.{Choice, raw, next, framesBy}
-use Rattle.delivery.specs.Sender.{Framed}
-use Rattle.delivery.specs.Link.{fates}
+use Rattle.sender.specs.Stream.{Choice, raw, next, framesBy}
+use Rattle.sender.specs.Sender.{Framed}
+use Rattle.delivery.specs.Link.{Passing, arrives, loses, noise, fates}
+use Rattle.delivery.specs.Expected.{lostAt}
 use Rattle.delivery.specs.Delivered.{handed, losses, Delivered}
 use Rattle.delivery.specs.Run.{Call, answerOf, reportsOf}
 use Rattle.delivery.specs.Demand.{Reception}
 use Rattle.delivery.specs.Further.{masterLosses}
-use Rattle.delivery.specs.Corners.{two, loss}
+use Rattle.delivery.specs.Corners.{two}
 
 -- "HB9EG" of SSID 1 to "HB9EG" of SSID 2.
 abbrev pub station : ℕ → Address
@@ -56,9 +57,9 @@ fivePackets = packetOf 251 4 ∷ two
 abbrev pub recording : List Framed
 recording = turns 7 (framesBy two 0 254 zeroChoices) (framesBy fivePackets 0 9 fiveChoices)
 
--- Channel 0 loses its empty frame.
-abbrev pub losing : List Bool
-losing = true ∷ true ∷ true ∷ true ∷ false ∷ true ∷ true ∷ true ∷ []
+-- Channel 5 loses its raw frame, and channel 0 then its empty one. Before it, a stretch is refused with 17.
+abbrev pub losing : List Passing
+losing = arrives ∷ arrives ∷ noise 17 ∷ arrives ∷ loses ∷ loses ∷ arrives ∷ arrives ∷ arrives ∷ []
 
 -- A run in which every answer is a refusal.
 abbrev pub AllRefused : List Call → Type 0
@@ -69,10 +70,10 @@ pub record Witness : Type 0 where
   pub reception : Reception
   pub sent : reception .frames ≡ recording
   pub lost : reception .link ≡ losing
-  pub zero-packets : handed (reportsOf 0 (reception .calls)) ≡ out 3 (packetOf 16 1) ∷ []
-  pub zero-losses : losses (reportsOf 0 (reception .calls)) ≡ loss 1 0 ∷ loss 3 0 ∷ loss 6 1 ∷ []
-  pub five-packets : handed (reportsOf 5 (reception .calls)) ≡ out 5 (packetOf 251 4) ∷ out 5 (packetOf 16 1) ∷ out 7 (packetOf 30 2) ∷ []
-  pub five-losses : losses (reportsOf 5 (reception .calls)) ≡ loss 2 0 ∷ loss 4 0 ∷ loss 5 0 ∷ loss 7 0 ∷ []
-  pub masters : masterLosses (reception .calls) ≡ loss 1 0 ∷ loss 2 0 ∷ loss 3 0 ∷ loss 4 0 ∷ loss 5 1 ∷ loss 6 0 ∷ loss 7 0 ∷ []
+  pub zero-packets : handed (reportsOf 0 (reception .calls)) ≡ out 4 (packetOf 16 1) ∷ []
+  pub zero-losses : losses (reportsOf 0 (reception .calls)) ≡ lostAt 1 0 ∷ lostAt 4 0 ∷ lostAt 6 1 ∷ []
+  pub five-packets : handed (reportsOf 5 (reception .calls)) ≡ out 5 (packetOf 16 1) ∷ out 7 (packetOf 30 2) ∷ []
+  pub five-losses : losses (reportsOf 5 (reception .calls)) ≡ lostAt 2 0 ∷ lostAt 5 1 ∷ lostAt 7 0 ∷ []
+  pub masters : masterLosses (reception .calls) ≡ lostAt 1 0 ∷ lostAt 2 0 ∷ lostAt 4 0 ∷ lostAt 5 2 ∷ lostAt 6 0 ∷ lostAt 7 0 ∷ []
   -- No run that refuses every frame would do.
   pub refused : (calls : List Call) → AllRefused calls → Delivered fivePackets (fates 5 0 losing recording) (reportsOf 5 calls) → ⊥

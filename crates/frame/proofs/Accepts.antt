@@ -8,15 +8,17 @@ use mathlib.Core.Logic.{inl, inr, ⊎-elim}
 use borrow.Author.Tests.{ltb-true, ltb-false, eqb-true, eqb-false, not-false, not-true}
 use lib.ListN.{length, take, drop}
 use lib.Dec.{ltb, eqb}
-use Rattle.octets.specs.Numbers.{at, word}
+use Rattle.octets.specs.Numbers.{at}
 use Rattle.octets.proofs.Choices.{not-picked}
 use Rattle.octets.proofs.Runs.{length-part}
 use Rattle.octets.proofs.Tests.{facts, or-true, and-true-left, and-true-right}
 use Rattle.answer.specs.Told.{accept}
 use Rattle.answer.proofs.Told.{same-fields, refuse-or-accept}
-use Rattle.crc.specs.Check.{frameCheck}
+use Rattle.bits.specs.Rows.{ones}
+use Rattle.bits.specs.Rows.Order.{lowFirst}
+use Rattle.crc.specs.Check.{checkWrong}
 use Rattle.frame.specs.Address.{addressWrong}
-use Rattle.frame.specs.Frame.{lengthWrong, checkWrong, headWrong, versionWrong, flagOf, statusWrong, pointerWrong, dataLength, statusOf, frameOf, readWhole, readFrame}
+use Rattle.frame.specs.Frame.{lengthWrong, headWrong, versionWrong, flagOf, statusWrong, pointerWrong, dataLength, statusOf, frameOf, readWhole, readFrame}
 use Rattle.frame.specs.Back.{PointerRight, Accepted, Accepts}
 use Rattle.frame.specs.declared.Frame.{Frame}
 
@@ -25,7 +27,7 @@ pub record Passed (t : ℕ) (s : List ℕ) : Type 0 where
   pub time : t ≤ 8
   pub least : 23 + t ≤ length s
   pub greatest : length s ≤ 274
-  pub check : word (at s (length s - 1)) (at s (length s - 2)) ≡ frameCheck (take (length s - 2) s)
+  pub check : checkWrong lowFirst (ones 16) s ≡ false
   pub destination : addressWrong (take 7 s) 0 ≡ false
   pub source : addressWrong (take 7 (drop 7 s)) 1 ≡ false
   pub control : at s 14 ≡ 3
@@ -41,11 +43,11 @@ head-facts : (a b : Bool) (x y : ℕ) → (a || b || not (eqb x 3) || not (eqb y
 head-facts a b x y h = search facts
 
 pub passed : (t : ℕ) (s : List ℕ) (f : Frame) → readFrame t s ≡ accept f → Passed t s × (frameOf t s ≡ f)
-unfolding readFrame readWhole checkWrong headWrong statusWrong
+unfolding readFrame readWhole headWrong statusWrong
 passed t s f h =
     let h₁ = not-picked (ltb 8 t) _ _ _ h refuse-or-accept in
     let h₂ = not-picked (lengthWrong t (length s)) _ _ _ (h₁ .1) refuse-or-accept in
-    let h₃ = not-picked (checkWrong s) _ _ _ (h₂ .1) refuse-or-accept in
+    let h₃ = not-picked (checkWrong lowFirst (ones 16) s) _ _ _ (h₂ .1) refuse-or-accept in
     let h₄ = not-picked (headWrong s) _ _ _ (h₃ .1) refuse-or-accept in
     let h₅ = not-picked (versionWrong (at s 16)) _ _ _ (h₄ .1) refuse-or-accept in
     let h₆ = not-picked (statusWrong t (statusOf t s)) _ _ _ (h₅ .1) refuse-or-accept in
@@ -58,7 +60,7 @@ passed t s f h =
         time = ltb-false 8 t (h₁ .0);
         least = b .0;
         greatest = b .1;
-        check = eqb-true _ _ (not-false _ (h₃ .0));
+        check = h₃ .0;
         destination = d .0;
         source = d .1;
         control = d .2;

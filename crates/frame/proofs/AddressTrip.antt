@@ -5,7 +5,7 @@ use mathlib.Core.Path.{_≡_, refl, sym, ap, _∙_}
 use mathlib.Core.List.{List, [], _++_}
 use mathlib.Core.Bool.{Bool, true, false, not, _||_, true≢false}
 use mathlib.Core.Logic.{_⊎_, inl, inr, ⊎-elim}
-use borrow.Author.Tests.{eq-eqb, ne-eqb, eqb-true, eqb-false, not-false, ltb-false}
+use borrow.Author.Tests.{eq-eqb, ne-eqb, le-ltb, eqb-true, eqb-false, not-false, ltb-false}
 use lib.ListN.{length, drop, drop-of-length-le}
 use lib.Dec.{eqb, ltb}
 use Rattle.octets.specs.Numbers.{at}
@@ -13,7 +13,8 @@ use Rattle.octets.specs.Pick.{pick}
 use Rattle.octets.proofs.Choices.{passed}
 use Rattle.octets.proofs.Runs.{run, run-is}
 use Rattle.octets.proofs.Tests.{facts, or-left, or-right, and-false}
-use Rattle.frame.specs.Address.{sign, space, breaks, callsignWrong, shiftedSign, startWrong, nextWrong, ssidWrong, wrongBehind, firstWrong, addressWrong, callsignOf, addressOf, addressOctets}
+use Rattle.frame.specs.Address.{sign, space, breaks, callsignWrong, unfit, shiftedSign, startWrong, nextWrong, ssidWrong, wrongBehind, firstWrong, addressWrong, callsignOf, addressOf, addressOctets}
+use Rattle.frame.specs.Back.{RightIsWritten}
 use Rattle.frame.specs.declared.Address.{Address}
 
 half : (x : ℕ) → 2 * x / 2 ≡ x
@@ -179,3 +180,22 @@ module _ (s : List ℕ) (last : ℕ) (h : addressWrong s last ≡ false) where
         z,
       ) in
       same ∙ sym (run-is 7 0 s (omega arith) ∙ ap (λ (x : List ℕ). run 0 7 s ++ x) end)
+
+-- an address that is fit, as facts
+record Fit (a : Address) : Type 0 where
+  ssid : a .ssid ≤ 15
+  callsign : callsignWrong (a .callsign) ≡ false
+
+fit : (a : Address) → unfit a ≡ false → Fit a
+fit a h = record { ssid = ltb-false 15 _ (or-left (ltb 15 (a .ssid)) _ h); callsign = or-right (ltb 15 (a .ssid)) _ h }
+
+-- right octets are those of the address that stands in them, and the writer's octets are right
+pub right-is-written : RightIsWritten
+right-is-written s last n low = (
+  (λ h.
+      let few : at s 6 / 2 % 16 ≤ 15 = omega arith in
+      record { address = addressOf s; fit = simp (le-ltb _ _ few, callsign-right s last h); octets = octets-of s last h n }),
+  (λ w.
+      let k = fit (w .address) (w .fit) in
+      ap (λ (x : List ℕ). addressWrong x last) (sym (w .octets)) ∙ octets-right (w .address) last (k .callsign) (k .ssid) low),
+)

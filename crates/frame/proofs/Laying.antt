@@ -12,12 +12,12 @@ use lib.Dec.{leb, eqb}
 use Rattle.octets.specs.Parts.{put, written}
 use Rattle.octets.proofs.Placing.{put-first, after}
 use Rattle.octets.proofs.Tests.{facts, or-right, and-true-right, or-true, and-false}
-use Rattle.crc.specs.Check.{frameCheck, octetsOf}
-use Rattle.crc.specs.Check.Order.{lowFirst}
+use Rattle.crc.specs.Check.{frameCheck, octetsOf, withCheck}
+use Rattle.bits.specs.Rows.Order.{lowFirst}
 use Rattle.frame.specs.Address.{sign, space, breaks, callsignWrong, addressOctets}
 use Rattle.frame.specs.Asked.{Fits, Room}
 use Rattle.frame.specs.Frame.{flagOf, pointerWrong}
-use Rattle.frame.specs.Write.{fieldsWrong, headOf, front, statusOctet, body, sealed, frameOctets}
+use Rattle.frame.specs.Write.{fieldsWrong, headOf, front, statusOctet, body, frameOctets}
 use Rattle.frame.specs.declared.Address.{Address}
 use Rattle.frame.specs.declared.Frame.{Frame}
 
@@ -78,7 +78,7 @@ flag-low (suc n) e h = rw e (omega arith)
 -- ---- the frame's length
 
 pub length-octets : (f : Frame) (t : ℕ) (d m : List ℕ) → length (frameOctets f t d m) ≡ length d + 23 + length m
-unfolding frameOctets sealed
+unfolding frameOctets withCheck
 length-octets f t d m = simp length-append (omega arith)
 
 module _ (f : Frame) (t : ℕ) (d m out : List ℕ) where
@@ -107,7 +107,7 @@ pub steps : (f : Frame) (t : ℕ) (d m out : List ℕ) {g : ℕ} {o₀ o₁ o₂
     → o₃ ≡ put o₂ (length d + 20 + 1) m
     → o₄ ≡ put o₃ (length d + 20 + 1 + t) (octetsOf lowFirst (frameCheck (take (length d + 20 + 1 + t) o₃)))
     → o₄ ≡ written (frameOctets f t d m) out
-unfolding frameOctets sealed
+unfolding frameOctets withCheck
 steps f t d m out h l eg e₀ e₁ e₂ e₃ e₄ =
     let s : List ℕ = statusOctet f t ∷ [] in
     let b : List ℕ = body f t d m in

@@ -1,8 +1,10 @@
 pub mod Accepts
 pub mod AddressTrip
+pub mod Calls
 pub mod Laying
 pub mod Reader
 pub mod ReadsBack
+pub mod Tells
 pub mod Told
 pub mod Unique
 pub mod WritesBack

@@ -11,20 +11,17 @@ use Rattle.octets.specs.Numbers.{at}
 use Rattle.octets.specs.Pick.{pick}
 use Rattle.octets.proofs.Placing.{part-some}
 use Rattle.answer.specs.Told.{accept}
-use Rattle.crc.specs.Check.{ones, frameCheck, octetsOf}
-use Rattle.crc.specs.Check.Order.{lowFirst}
+use Rattle.bits.specs.Rows.{ones}
+use Rattle.crc.specs.Check.{frameCheck, octetsOf, withCheck, checkWrong}
+use Rattle.bits.specs.Rows.Order.{lowFirst}
 use Rattle.crc.proofs.Ends.{found}
 use Rattle.frame.specs.Address.{addressOf}
-use Rattle.frame.specs.Frame.{lengthWrong, checkWrong, headWrong, versionWrong, flagOf, statusWrong, pointerWrong, dataLength, statusOf, frameOf, dataOf, timeOf, readWhole, readFrame}
+use Rattle.frame.specs.Frame.{lengthWrong, headWrong, versionWrong, flagOf, statusWrong, pointerWrong, dataLength, statusOf, frameOf, dataOf, timeOf, readWhole, readFrame}
 use Rattle.frame.specs.Back.{ReadsBack}
-use Rattle.frame.specs.Write.{fieldsWrong, front, statusOctet, body, sealed, frameOctets}
+use Rattle.frame.specs.Write.{fieldsWrong, front, statusOctet, body, frameOctets}
 use Rattle.frame.specs.declared.Frame.{Frame}
 use Rattle.frame.proofs.AddressTrip.{octets-right, octets-back}
 use Rattle.frame.proofs.Laying.{InRange, in-range, length-octets, flag-low}
-
-check-right : (b : List ℕ) → checkWrong (sealed b) ≡ false
-unfolding checkWrong sealed
-check-right b = simp (eq-eqb _ _ (found lowFirst (ones 16) b))
 
 module _ (f : Frame) (t : ℕ) (d m : List ℕ) (right : fieldsWrong f t (length d) (length m) ≡ false) where
   s : List ℕ
@@ -43,12 +40,12 @@ module _ (f : Frame) (t : ℕ) (d m : List ℕ) (right : fieldsWrong f t (length
       let b : length s ≤ 274 = omega (arith, l, r .lent, r .few, r .time) in
       simp (le-ltb _ _ a, le-ltb _ _ b)
 
-  check : checkWrong s ≡ false
+  check : checkWrong lowFirst (ones 16) s ≡ false
   unfolding s frameOctets
-  check = check-right (body f t d m)
+  check = found lowFirst (ones 16) (body f t d m)
 
   head : headWrong s ≡ false
-  unfolding s headWrong frameOctets sealed
+  unfolding s headWrong frameOctets withCheck
   head =
       simp (
         octets-right (f .destination) 0 (r .destination) (r .to) (omega arith),
@@ -56,7 +53,7 @@ module _ (f : Frame) (t : ℕ) (d m : List ℕ) (right : fieldsWrong f t (length
       )
 
   version : versionWrong (at s 16) ≡ false
-  unfolding s frameOctets sealed
+  unfolding s frameOctets withCheck
   version =
       let a : 8 * f .channel / 64 ≡ 0 = omega (arith, r .channel) in
       let b : 8 * f .channel % 8 ≡ 0 = omega arith in
@@ -70,7 +67,7 @@ module _ (f : Frame) (t : ℕ) (d m : List ℕ) (right : fieldsWrong f t (length
   rest = statusOctet f t ∷ m ++ octetsOf lowFirst (frameCheck (body f t d m))
 
   behind : s ≡ (front f ++ d) ++ rest
-  unfolding s rest frameOctets sealed
+  unfolding s rest frameOctets withCheck
   behind =
       append-assoc (front f ++ d ++ (statusOctet f t ∷ [])) m _
       ∙ append-assoc (front f ++ d) (statusOctet f t ∷ []) _
@@ -93,30 +90,30 @@ module _ (f : Frame) (t : ℕ) (d m : List ℕ) (right : fieldsWrong f t (length
       simp (status-at, eq-eqb _ _ a, eq-eqb _ _ b)
 
   pointer-at : at s 19 ≡ f .pointer
-  unfolding s frameOctets sealed
+  unfolding s frameOctets withCheck
   pointer-at = refl
 
   pointer : pointerWrong (at s 19) (dataLength t s) ≡ false
   pointer = simp (place, pointer-at, r .same, r .pointer)
 
   to-at : addressOf (take 7 s) ≡ f .destination
-  unfolding s frameOctets sealed
+  unfolding s frameOctets withCheck
   to-at = octets-back (f .destination) 0 (r .destination) (r .to) (omega arith)
 
   from-at : addressOf (take 7 (drop 7 s)) ≡ f .source
-  unfolding s frameOctets sealed
+  unfolding s frameOctets withCheck
   from-at = octets-back (f .source) 1 (r .source) (r .from) (omega arith)
 
   channel-at : at s 16 / 8 ≡ f .channel
-  unfolding s frameOctets sealed
+  unfolding s frameOctets withCheck
   channel-at = omega arith
 
   master-at : at s 17 ≡ f .master .0
-  unfolding s frameOctets sealed
+  unfolding s frameOctets withCheck
   master-at = refl
 
   count-at : at s 18 ≡ f .count .0
-  unfolding s frameOctets sealed
+  unfolding s frameOctets withCheck
   count-at = refl
 
   fields : frameOf t s ≡ f

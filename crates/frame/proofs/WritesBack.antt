@@ -11,13 +11,14 @@ use lib.Seq.{take-add, take-suc, length-take-le}
 use Rattle.octets.specs.Numbers.{at}
 use Rattle.octets.proofs.Placing.{part-some}
 use Rattle.octets.proofs.Runs.{run, run-is, length-part}
-use Rattle.crc.specs.Check.{ones}
-use Rattle.crc.specs.Check.Order.{lowFirst}
+use Rattle.bits.specs.Rows.{ones}
+use Rattle.bits.specs.Rows.Order.{lowFirst}
+use Rattle.crc.specs.Check.{withCheck}
 use Rattle.crc.proofs.Ends.{accepted}
 use Rattle.frame.specs.Address.{addressOf, addressOctets}
 use Rattle.frame.specs.Frame.{flagOf, dataLength, statusOf, frameOf, dataOf, timeOf}
 use Rattle.frame.specs.Back.{WrittenBack, WritesBack}
-use Rattle.frame.specs.Write.{fieldsWrong, headOf, front, statusOctet, body, sealed, frameOctets}
+use Rattle.frame.specs.Write.{fieldsWrong, headOf, front, statusOctet, body, frameOctets}
 use Rattle.frame.specs.declared.Frame.{Frame}
 use Rattle.frame.proofs.Accepts.{Passed, passed}
 use Rattle.frame.proofs.AddressTrip.{octets-of, callsign-right}
@@ -109,9 +110,9 @@ module _ (t : ℕ) (s : List ℕ) (k : Passed t s) where
       ∙ ap (λ (i : ℕ). take i s) e
 
   octets-back : ((i : ℕ) → at s i < 256) → frameOctets f t (dataOf f s) (timeOf f t s) ≡ s
-  unfolding frameOctets sealed
+  unfolding frameOctets
   octets-back octet =
-      ap sealed body-back ∙ accepted lowFirst (ones 16) s (record { small = octet; two = omega (arith, k .least) }) (k .check)
+      ap (withCheck lowFirst (ones 16)) body-back ∙ accepted lowFirst (ones 16) s (record { small = octet; two = omega (arith, k .least) }) (k .check)
 
   written-back : ((i : ℕ) → at s i < 256) → WrittenBack (frameOf t s) t s
   unfolding f

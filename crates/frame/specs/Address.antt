@@ -5,6 +5,7 @@ use mathlib.Core.Bool.{Bool, not, _&&_, _||_}
 use lib.Dec.{ltb, leb, eqb}
 use Rattle.octets.specs.Numbers.{at}
 use Rattle.octets.specs.Pick.{pick}
+use Rattle.frame.specs.Limits.{lastSsid}
 use Rattle.frame.specs.declared.Callsign.{Callsign}
 use Rattle.frame.specs.declared.Address.{Address}
 
@@ -27,7 +28,7 @@ callsignWrong c =
 
 -- What no address may be: an SSID of more than 4 bits, or a wrong callsign.
 abbrev pub unfit : Address → Bool
-unfit a = ltb 15 (a .ssid) || callsignWrong (a .callsign)
+unfit a = ltb lastSsid (a .ssid) || callsignWrong (a .callsign)
 
 -- ---- the seven octets
 

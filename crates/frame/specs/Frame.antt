@@ -1,15 +1,18 @@
 -- Document 01, 'The frame': what a reader answers of octets and a time of t octets.
 use Prim.Native.Nat.{ℕ, zero, suc, _+_, _-_, _/_, _%_}
-use mathlib.Core.List.{List}
+use mathlib.Core.List.{List, [], _∷_, _++_}
 use mathlib.Core.Bool.{Bool, not, _&&_, _||_}
 use lib.ListN.{length, take, drop}
 use lib.Dec.{ltb, eqb}
-use Rattle.octets.specs.Numbers.{at, word}
+use Rattle.octets.specs.Numbers.{at}
 use Rattle.octets.specs.Parts.{part}
 use Rattle.octets.specs.Pick.{pick}
-use Rattle.answer.specs.Told.{Told, accept, refuse}
+use Rattle.answer.specs.Told.{Told, accept, refuse, TellsNothing}
 use Rattle.answer.specs.Refusals as no
-use Rattle.crc.specs.Check.{frameCheck}
+use Rattle.bits.specs.Rows.{ones}
+use Rattle.bits.specs.Rows.Order.{lowFirst}
+use Rattle.crc.specs.Check.{checkWrong}
+use Rattle.frame.specs.Limits.{leastLength, greatestLength, longestTime, noneStarts, rawData}
 use Rattle.frame.specs.Address.{addressWrong, addressOf}
 use Rattle.frame.specs.declared.Address.{Address}
 use Rattle.frame.specs.declared.Frame.{Frame}
@@ -33,19 +36,28 @@ noFrame =
       length = 0;
     }
 
+-- The numbers of a frame's fields: in a refusal's answer each is 0.
+abbrev pub addressNumbers : Address → List ℕ
+addressNumbers a =
+    a .callsign .0 ∷ a .callsign .1 ∷ a .callsign .2 ∷ a .callsign .3 ∷ a .callsign .4 ∷ a .callsign .5 ∷ a .ssid ∷ []
+
+abbrev pub frameNumbers : Frame → List ℕ
+frameNumbers f =
+    addressNumbers (f .destination) ++ addressNumbers (f .source)
+    ++ (f .channel ∷ f .master .0 ∷ f .count .0 ∷ f .pointer ∷ f .telecommands ∷ f .length ∷ [])
+
 abbrev pub told : FrameRead → Told Frame
 told (read.Frame f) = accept f
 told (read.Refused n) = refuse noFrame n
 
+abbrev pub RefusalsTellNothing : Type 0
+RefusalsTellNothing = TellsNothing told frameNumbers
+
 -- ---- the refusals' lines
 
--- 10: shorter than 23 + t or longer than 274.
+-- 10: shorter than the least length and t, or longer than the greatest.
 abbrev pub lengthWrong : ℕ → ℕ → Bool
-lengthWrong t n = ltb n (23 + t) || ltb 274 n
-
--- 11: the last two octets, low octet first, aren't the check of those before.
-unfoldable pub checkWrong : List ℕ → Bool
-checkWrong s = not (eqb (word (at s (length s - 1)) (at s (length s - 2))) (frameCheck (take (length s - 2) s)))
+lengthWrong t n = ltb n (leastLength + t) || ltb greatestLength n
 
 -- 12: destination, source, control 0x03 or protocol 0xF0.
 unfoldable pub headWrong : List ℕ → Bool
@@ -64,15 +76,15 @@ flagOf (suc n) = 8 + n
 unfoldable pub statusWrong : ℕ → ℕ → Bool
 statusWrong t x = not (eqb (x / 16) (flagOf t)) || not (eqb (x / 4 % 4) 0)
 
--- 15, and the writer's 51: neither below the data's length, nor 255, nor 254 with data.
+-- 15, and the writer's 51: neither below the data's length, nor 255 (none starts), nor 254 (raw data) with data.
 unfoldable pub pointerWrong : ℕ → ℕ → Bool
-pointerWrong pointer n = not (ltb pointer n || eqb pointer 255 || (eqb pointer 254 && not (eqb n 0)))
+pointerWrong pointer n = not (ltb pointer n || eqb pointer noneStarts || (eqb pointer rawData && not (eqb n 0)))
 
 -- ---- what stands where
 
--- The data's length: what is left of the frame beside 23 octets and the time.
+-- The data's length: what is left of the frame beside its least length and the time.
 abbrev pub dataLength : ℕ → List ℕ → ℕ
-dataLength t s = length s - 23 - t
+dataLength t s = length s - leastLength - t
 
 -- The status octet: the one before the last t octets of the information, behind which the check's two stand.
 abbrev pub statusOf : ℕ → List ℕ → ℕ
@@ -104,10 +116,10 @@ timeOf f t s = part s (21 + f .length) t
 
 -- ---- the reader
 
--- A frame of a right length: 11 to 15.
+-- A frame of a right length: 11 (the last two octets, low octet first, aren't the check of those before) to 15.
 unfoldable pub readWhole : ℕ → List ℕ → Told Frame
 readWhole t s =
-    pick (checkWrong s) (refuse noFrame no.frameCheck)
+    pick (checkWrong lowFirst (ones 16) s) (refuse noFrame no.frameCheck)
     (pick (headWrong s) (refuse noFrame no.frameAddress)
     (pick (versionWrong (at s 16)) (refuse noFrame no.frameVersion)
     (pick (statusWrong t (statusOf t s)) (refuse noFrame no.frameStatus)
@@ -117,5 +129,5 @@ readWhole t s =
 -- A single frame outside a session: 2, then 10 to 15.
 unfoldable pub readFrame : ℕ → List ℕ → Told Frame
 readFrame t s =
-    pick (ltb 8 t) (refuse noFrame no.timeLength)
+    pick (ltb longestTime t) (refuse noFrame no.timeLength)
     (pick (lengthWrong t (length s)) (refuse noFrame no.frameLength) (readWhole t s))

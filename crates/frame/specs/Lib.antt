@@ -1,3 +1,4 @@
+pub mod Limits
 pub mod Address
 pub mod Frame
 pub mod Write

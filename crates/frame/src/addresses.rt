@@ -37,7 +37,7 @@ pub(crate) fn unfit(a: Address) -> bool
     ensures { λ r. ⌜ r ≡ unfit a ⌝ }
 {
     let c = a.callsign;
-    (15 < a.ssid)
+    (Address::LAST_SSID < a.ssid)
         | (!sign(c.0)
             | breaks(c.0, c.1)
             | breaks(c.1, c.2)

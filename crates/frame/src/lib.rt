@@ -1,9 +1,7 @@
 // Frames: read, written, and their data and time found. No function here asks anything of a caller.
 ghost use mathlib.Core.Path.{_≡_};
-ghost use lib.ListN.{length};
-ghost use Rattle.answer.specs.Writer.{Wrote};
 ghost use Rattle.frame.specs.Frame.{told, readFrame, dataOf, timeOf};
-ghost use Rattle.frame.specs.Write.{fieldsWrong, frameOctets};
+ghost use Rattle.frame.specs.Write.{WroteFrame};
 use answer::Written;
 use counts::ChannelCount;
 use counts::MasterCount;
@@ -38,6 +36,10 @@ pub enum FrameRead {
     Refused(u16),
 }
 
+impl Address {
+    pub const LAST_SSID: u8 = 15;
+}
+
 impl Frame {
     // The fewest octets of a frame, without a time.
     pub const LEAST: usize = 23;
@@ -48,8 +50,21 @@ impl Frame {
     // The octets before the information: two addresses, control and protocol.
     pub const HEADER: usize = 16;
 
-    // The information's octets before the data.
-    pub const SECOND_HEADER: usize = 4;
+    // The Secondary Header: the information's octets before the data.
+    pub const SECONDARY_HEADER: usize = 4;
+
+    // The most octets of a time.
+    pub const LONGEST_TIME: usize = 8;
+
+    // The last channel, and the most telecommands that are counted.
+    pub const LAST_CHANNEL: u8 = 7;
+
+    pub const MOST_TELECOMMANDS: u8 = 3;
+
+    // Pointers that are no place: no packet header starts here; raw data and no packet octets.
+    pub const NONE_STARTS: u8 = 255;
+
+    pub const RAW_DATA: u8 = 254;
 
     // The frame of these fields, as they stand: writing refuses what is out of range.
     pub fn new(
@@ -80,10 +95,10 @@ impl Frame {
     pub fn read(t: u8, octets: &[u8]) -> FrameRead
         ensures { λ r. ⌜ told r ≡ readFrame t (now (octets .entry)) ⌝ }
     {
-        if 8 < t {
+        let time = t as usize;
+        if Frame::LONGEST_TIME < time {
             return FrameRead::Refused(answer::TIME_LENGTH);
         }
-        let time = t as usize;
         if reading::length_wrong(time, octets.len()) {
             return FrameRead::Refused(answer::FRAME_LENGTH);
         }
@@ -110,7 +125,7 @@ impl Frame {
 
     // The frame's octets at the start of out, and their number; else 51 or 50, and out stays.
     pub fn write(self, t: u8, data: &[u8], time: &[u8], out: &mut [u8]) -> Written
-        ensures { λ r. ⌜ Wrote (fieldsWrong self t (length (now («data» .entry))) (length (now (time .entry)))) (frameOctets self t (now («data» .entry)) (now (time .entry))) (now (out .entry)) r (now (out .exit)) ⌝ }
+        ensures { λ r. ⌜ WroteFrame self t (now («data» .entry)) (now (time .entry)) (now (out .entry)) r (now (out .exit)) ⌝ }
     {
         let n = data.len();
         let m = time.len();

@@ -2,8 +2,12 @@
 ghost use mathlib.Core.Path.{_≡_};
 ghost use lib.ListN.{length};
 ghost use Prim.Native.Nat.{_≤_};
+ghost use Rattle.bits.specs.Rows.{ones};
+ghost use Rattle.bits.specs.Rows.Order.{lowFirst};
+ghost use Rattle.crc.specs.Check.{checkWrong};
 ghost use Rattle.frame.specs.Asked.{Whole};
-ghost use Rattle.frame.specs.Frame.{told, flagOf, lengthWrong, checkWrong, headWrong, versionWrong, statusWrong, pointerWrong, fieldsOf, readWhole};
+ghost use Rattle.frame.specs.Limits.{leastLength, longestTime};
+ghost use Rattle.frame.specs.Frame.{told, flagOf, lengthWrong, headWrong, versionWrong, statusWrong, pointerWrong, fieldsOf, readWhole};
 use super::Frame;
 use super::FrameRead;
 use super::addresses;
@@ -30,7 +34,7 @@ const COUNT_AT: usize = MASTER_AT + 1;
 
 const POINTER_AT: usize = COUNT_AT + 1;
 
-pub(crate) const DATA_AT: usize = Frame::HEADER + Frame::SECOND_HEADER;
+pub(crate) const DATA_AT: usize = Frame::HEADER + Frame::SECONDARY_HEADER;
 
 // The octets before the time, beside the data: those before the data, and the status octet.
 pub(crate) const BEFORE_TIME: usize = DATA_AT + 1;
@@ -40,7 +44,7 @@ const AROUND_TIME: usize = 3;
 
 // Whether a frame of n octets is too short or too long: refusal 10.
 pub(crate) fn length_wrong(t: usize, n: usize) -> bool
-    requires { ⌜ t ≤ 8 ⌝ }
+    requires { ⌜ t ≤ longestTime ⌝ }
     ensures { λ r. ⌜ r ≡ lengthWrong t n ⌝ }
 {
     (n < Frame::LEAST + t) | (Frame::GREATEST < n)
@@ -48,8 +52,8 @@ pub(crate) fn length_wrong(t: usize, n: usize) -> bool
 
 // Whether the last two octets, low octet first, aren't the check of those before: refusal 11.
 fn check_wrong(s: &[u8]) -> bool
-    requires { ⌜ 23 ≤ length (now s) ⌝ }
-    ensures { λ r. ⌜ r ≡ checkWrong (now (s .entry)) ⌝ }
+    requires { ⌜ leastLength ≤ length (now s) ⌝ }
+    ensures { λ r. ⌜ r ≡ checkWrong lowFirst (ones 16) (now (s .entry)) ⌝ }
 {
     let n = s.len();
     octets::word(s[n - 1], s[n - 2]) != crc::frame_check(&s[..n - 2])
@@ -57,7 +61,7 @@ fn check_wrong(s: &[u8]) -> bool
 
 // Whether an address, the control or the protocol octet is wrong: refusal 12.
 fn head_wrong(s: &[u8]) -> bool
-    requires { ⌜ 23 ≤ length (now s) ⌝ }
+    requires { ⌜ leastLength ≤ length (now s) ⌝ }
     ensures { λ r. ⌜ r ≡ headWrong (now (s .entry)) ⌝ }
 {
     (addresses::first_wrong(&s[0..SOURCE_AT], 0) < addresses::NONE)
@@ -75,7 +79,7 @@ fn version_wrong(x: u8) -> bool
 
 // The time flag of a time of t octets.
 pub(crate) fn flag(t: usize) -> usize
-    requires { ⌜ t ≤ 8 ⌝ }
+    requires { ⌜ t ≤ longestTime ⌝ }
     ensures { λ r. ⌜ r ≡ flagOf t ⌝ }
 {
     if t == 0 {
@@ -86,7 +90,7 @@ pub(crate) fn flag(t: usize) -> usize
 
 // Whether the status octet x has another flag than t's, or a spare that isn't 0: refusal 14.
 fn status_wrong(t: usize, x: u8) -> bool
-    requires { ⌜ t ≤ 8 ⌝ }
+    requires { ⌜ t ≤ longestTime ⌝ }
     ensures { λ r. ⌜ r ≡ statusWrong t x ⌝ }
 {
     (octets::wide(x / 16) != flag(t)) | (x / 4 % 4 != 0)
@@ -96,7 +100,9 @@ fn status_wrong(t: usize, x: u8) -> bool
 pub(crate) fn pointer_wrong(pointer: u8, n: usize) -> bool
     ensures { λ r. ⌜ r ≡ pointerWrong pointer n ⌝ }
 {
-    !((octets::wide(pointer) < n) | (pointer == 255) | ((pointer == 254) & (n != 0)))
+    !((octets::wide(pointer) < n)
+        | (pointer == Frame::NONE_STARTS)
+        | ((pointer == Frame::RAW_DATA) & (n != 0)))
 }
 
 // The fields that stand in a frame's octets, of which n are data and one is the status octet.
@@ -106,16 +112,16 @@ fn frame_of(s: &[u8], n: usize, status: u8) -> Frame
 {
     let destination = addresses::address_of(&s[0..SOURCE_AT]);
     let source = addresses::address_of(&s[SOURCE_AT..CONTROL_AT]);
-    Frame {
+    Frame::new(
         destination,
         source,
-        channel: s[CHANNEL_AT] / 8,
-        master: MasterCount(s[MASTER_AT]),
-        count: ChannelCount(s[COUNT_AT]),
-        pointer: s[POINTER_AT],
-        telecommands: status % 4,
-        length: n,
-    }
+        s[CHANNEL_AT] / 8,
+        MasterCount(s[MASTER_AT]),
+        ChannelCount(s[COUNT_AT]),
+        s[POINTER_AT],
+        status % 4,
+        n,
+    )
 }
 
 // What a frame of a right length is: its fields, or the first of the refusals 11 to 15.

@@ -4,8 +4,9 @@ ghost use lib.ListN.{length, take};
 ghost use Prim.Native.Nat.{_≤_};
 ghost use Rattle.octets.specs.Parts.{put, written};
 ghost use Rattle.crc.specs.Check.{frameCheck, octetsOf};
-ghost use Rattle.crc.specs.Check.Order.{lowFirst};
+ghost use Rattle.bits.specs.Rows.Order.{lowFirst};
 ghost use Rattle.frame.specs.Asked.{FrontRoom, Room};
+ghost use Rattle.frame.specs.Limits.{lastChannel, longestTime, mostTelecommands};
 ghost use Rattle.frame.specs.Write.{fieldsWrong, headOf, front, statusOctet, frameOctets};
 use super::Frame;
 use super::addresses;
@@ -15,14 +16,14 @@ use super::reading;
 pub(crate) fn fields_wrong(f: Frame, t: usize, n: usize, m: usize) -> bool
     ensures { λ r. ⌜ r ≡ fieldsWrong f t n m ⌝ }
 {
-    if 8 < t {
+    if Frame::LONGEST_TIME < t {
         return true;
     }
     (m != t)
         | (f.length != n)
         | (Frame::GREATEST - Frame::LEAST - t < n)
-        | (7 < f.channel)
-        | (3 < f.telecommands)
+        | (Frame::LAST_CHANNEL < f.channel)
+        | (Frame::MOST_TELECOMMANDS < f.telecommands)
         | reading::pointer_wrong(f.pointer, n)
         | addresses::unfit(f.destination)
         | addresses::unfit(f.source)
@@ -30,7 +31,7 @@ pub(crate) fn fields_wrong(f: Frame, t: usize, n: usize, m: usize) -> bool
 
 // The six octets after the addresses.
 fn head(f: Frame) -> [u8; 6]
-    requires { ⌜ f .channel ≤ 7 ⌝ }
+    requires { ⌜ f .channel ≤ lastChannel ⌝ }
     ensures { λ r. ⌜ r ≡ headOf f ⌝ }
 {
     let master = f.master;
@@ -47,7 +48,7 @@ fn head(f: Frame) -> [u8; 6]
 
 // The status octet.
 fn status(f: Frame, t: usize) -> u8
-    requires { ⌜ (t ≤ 8) × (f .telecommands ≤ 3) ⌝ }
+    requires { ⌜ (t ≤ longestTime) × (f .telecommands ≤ mostTelecommands) ⌝ }
     ensures { λ r. ⌜ r ≡ statusOctet f t ⌝ }
 {
     (16 * reading::flag(t)) as u8 + f.telecommands

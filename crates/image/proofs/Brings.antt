@@ -1,5 +1,5 @@
 -- A line that the report's reader accepted has its place in the image.
-use Prim.Native.Nat.{ℕ, _-_, _≤_}
+use Prim.Native.Nat.{ℕ, _-_, _<_}
 use native.Mathlib.Omega.{arith}
 use mathlib.Core.Path.{_≡_, refl, sym, ap, subst⁻¹, _∙_}
 use mathlib.Core.List.{List}
@@ -19,6 +19,7 @@ use Rattle.report.specs.declared.Content.{Content}
 use Rattle.report.specs.declared.Report.{Report}
 use Rattle.report.proofs.Accepted.{accepted}
 use Rattle.report.proofs.Known.{Kind, a-success, a-failure, a-housekeeping, an-available, a-line}
+use Rattle.image.specs.Line.{linePixels, imageLines}
 use Rattle.image.specs.Asked.{LineFits}
 
 either : (s : List ℕ) (b : Bool) (x y : Content) → LineFits x s → (b ≡ false → LineFits y s) → LineFits (pick b x y) s
@@ -34,13 +35,13 @@ packet-length : (s : List ℕ) (p : Packet) → readPacket s ≡ accept p → p 
 unfolding fieldsOf
 packet-length s p h = sym (ap (λ (q : Packet). q .length) (packet-accepted h .fields))
 
-pixels-length : (s : List ℕ) → length s - 16 ≡ 191 → length (pixelsOf s) ≡ 188
+pixels-length : (s : List ℕ) → length s - 16 ≡ 191 → length (pixelsOf s) ≡ linePixels
 pixels-length s h =
-    ap length (sym (part-some s 17 188 (omega arith))) ∙ simp (length-take, length-drop) (omega arith)
+    ap length (sym (part-some s 17 linePixels (omega arith))) ∙ simp (length-take, length-drop) (omega arith)
 
-line-below : (p : Packet) (s : List ℕ) → imageLine p ≡ true → lineAbove p s ≡ false → at s 16 ≤ 119
+line-below : (p : Packet) (s : List ℕ) → imageLine p ≡ true → lineAbove p s ≡ false → at s 16 < imageLines
 unfolding lineAbove
-line-below p s t h = ltb-false 119 (at s 16) (rw t at h)
+line-below p s t h = omega (arith, ltb-false 119 (at s 16) (rw t at h))
 
 -- only an image line is a line's content
 line-content : (p : Packet) (s : List ℕ) → Kind p → lineAbove p s ≡ false → p .length ≡ length s - 16 → LineFits (contentOf p s) s
@@ -52,7 +53,7 @@ line-content p s k h e =
     (λ n₃. either s (available p) _ _ tt (λ n₄. of-kind k n₁ n₂ n₃ n₄))))
   where
     of-kind : Kind p → success p ≡ false → failure p ≡ false → housekeeping p ≡ false → available p ≡ false
-        → (at s 16 ≤ 119) × (length (pixelsOf s) ≡ 188)
+        → (at s 16 < imageLines) × (length (pixelsOf s) ≡ linePixels)
     of-kind (a-success t l) n₁ n₂ n₃ n₄ = never t n₁
     of-kind (a-failure t l) n₁ n₂ n₃ n₄ = never t n₂
     of-kind (a-housekeeping t l) n₁ n₂ n₃ n₄ = never t n₃

@@ -1,6 +1,5 @@
 -- Laws that the proof of `place` cites: its answers, one for each end.
 use Prim.Native.Nat.{ℕ}
-use native.Mathlib.Omega.{arith}
 use mathlib.Core.Path.{_≡_, refl, sym, ap, subst, _∙_}
 use mathlib.Core.List.{List, [], _∷_}
 use mathlib.Core.Bool.{Bool, true, false}
@@ -60,7 +59,7 @@ module _ (packet : List ℕ) (arrival wanted : ℕ) (image : Image) where
     pub line-fits : {pixels : List ℕ} → pixels ≡ pixelsOf packet → Brings c packet image → Fits image (lineOf (l .line) pixels arrival)
     line-fits p b =
         let f : LineFits (content.Line l) packet = subst (λ (d : Content). LineFits d packet) e (b .fits) in
-        record { line = omega arith; pixels = ap length p ∙ f .1; image = b .image; lines = b .lines }
+        record { line = f .0; pixels = ap length p ∙ f .1; room = b .room }
 
 -- x is what the report's reader gave
 module _ (packet : List ℕ) (arrival wanted : ℕ) (image : Image) {x : ReportRead} (e : report-told x ≡ readReport packet) where

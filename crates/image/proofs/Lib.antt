@@ -4,4 +4,6 @@ pub mod TwoLines
 pub mod Brings
 pub mod Brought
 pub mod Told
+pub mod Refusal
+pub mod Back
 pub mod Unique

@@ -1,8 +1,7 @@
 -- No two answers, with what they leave, are told alike.
-use Prim.Native.Nat.{ℕ}
 use mathlib.Core.Path.{_≡_, ap}
-use mathlib.Core.List.{List}
 use Rattle.answer.proofs.Told.{same-fields, same-refusal, accept-or-refuse, refuse-or-accept}
+use Rattle.image.specs.Line.{Image}
 use Rattle.image.specs.Placing.{told, Outcome, observed}
 use Rattle.image.specs.declared.Placed.{Placed}
 use Rattle.image.specs.declared.Placed.the-variants.{Line, Refused}
@@ -13,12 +12,6 @@ told-apart (Refused n) (Refused m) h = ap Refused (same-refusal h)
 told-apart (Line n) (Refused m) h = accept-or-refuse h
 told-apart (Refused n) (Line m) h = refuse-or-accept h
 
--- the answer, the image and the list of an outcome
-pub observed-apart : {x y : Placed} {p q l m : List ℕ} → observed x p l ≡ observed y q m
-    → _≡_ {A = Placed × List ℕ × List ℕ} (x, p, l) (y, q, m)
-observed-apart {x} {y} h =
-    simp (
-      told-apart x y (ap (λ (o : Outcome). o .answer) h),
-      ap (λ (o : Outcome). o .image .pixels) h,
-      ap (λ (o : Outcome). o .image .lines) h,
-    )
+-- the answer, and the image with its list, of an outcome
+pub observed-apart : {x y : Placed} {i j : Image} → observed x i ≡ observed y j → _≡_ {A = Placed × Image} (x, i) (y, j)
+observed-apart {x} {y} h = simp (told-apart x y (ap (λ (o : Outcome). o .answer) h), ap (λ (o : Outcome). o .image) h)

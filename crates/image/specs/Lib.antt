@@ -1,4 +1,5 @@
 pub mod Line
 pub mod Placing
 pub mod Asked
+pub mod Back
 pub mod TwoLines

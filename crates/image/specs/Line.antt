@@ -9,6 +9,16 @@ use Rattle.octets.specs.Numbers.{at}
 use Rattle.octets.specs.Parts.{part, overlay}
 use Rattle.octets.specs.Pick.{pick}
 
+-- Limits: 188 pixels a line, 120 lines, and so 22,560 octets.
+abbrev pub linePixels : ℕ
+linePixels = 188
+
+abbrev pub imageLines : ℕ
+imageLines = 120
+
+abbrev pub imageOctets : ℕ
+imageOctets = 22560
+
 -- The pixels of an image, and for each line its number: 0 for "not received", else an arrival number.
 pub record Image : Type 0 where
   pub pixels : List ℕ
@@ -28,7 +38,7 @@ lineOf line pixels arrival = record { line = line; pixels = pixels; arrival = ar
 
 -- Line n goes to octets 188n to 188n + 187.
 abbrev pub start : ℕ → ℕ
-start n = 188 * n
+start n = linePixels * n
 
 -- Whether two rows of pixels are equal.
 unfoldable pub same : List ℕ → List ℕ → Bool
@@ -42,7 +52,7 @@ SameIsEqual = (s t : List ℕ) → (same s t ≡ true → s ≡ t) × (s ≡ t �
 
 -- Refusal 42: line n is held, with other pixels.
 unfoldable pub heldOtherwise : Image → ℕ → List ℕ → Bool
-heldOtherwise image n pixels = not (eqb (at (image .lines) n) 0) && not (same (part (image .pixels) (start n) 188) pixels)
+heldOtherwise image n pixels = not (eqb (at (image .lines) n) 0) && not (same (part (image .pixels) (start n) linePixels) pixels)
 
 -- The line's number: the arrival number; of a line that is held, the smaller of the two.
 unfoldable pub number : ℕ → ℕ → ℕ
@@ -56,9 +66,13 @@ placed image l =
       lines = set (image .lines) (l .line) (number (at (image .lines) (l .line)) (l .arrival));
     }
 
--- A line that has its place: 188 pixels, in an image of 120 such lines with a list of as many numbers.
+-- Room for an image and its list of line numbers.
+pub record Room (i : Image) : Type 0 where
+  pub pixels : imageOctets ≤ length (i .pixels)
+  pub lines : imageLines ≤ length (i .lines)
+
+-- A line that has its place in an image.
 pub record Fits (i : Image) (l : Line) : Type 0 where
-  pub line : l .line < 120
-  pub pixels : length (l .pixels) ≡ 188
-  pub image : 22560 ≤ length (i .pixels)
-  pub lines : 120 ≤ length (i .lines)
+  pub line : l .line < imageLines
+  pub pixels : length (l .pixels) ≡ linePixels
+  pub room : Room i

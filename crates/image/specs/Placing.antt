@@ -1,6 +1,7 @@
 -- Document 01, 'Image and sequence': placing, with its refusals.
 use Prim.Native.Nat.{ℕ}
-use mathlib.Core.Bool.{not, _||_}
+use mathlib.Core.Path.{_≡_}
+use mathlib.Core.Bool.{false, not, _||_}
 use mathlib.Core.List.{List}
 use lib.ListN.{length}
 use lib.Dec.{ltb, eqb}
@@ -11,7 +12,7 @@ use Rattle.report.specs.Report.{readReport, pixelsOf}
 use Rattle.report.specs.declared.Report.{Report}
 use Rattle.report.specs.declared.Content.{Content}
 use Rattle.report.specs.declared.Content.the-variants as content
-use Rattle.image.specs.Line.{Image, Line, imageOf, lineOf, heldOtherwise, placed}
+use Rattle.image.specs.Line.{imageLines, imageOctets, Image, Line, lineOf, heldOtherwise, placed}
 use Rattle.image.specs.declared.Placed.{Placed}
 use Rattle.image.specs.declared.Placed.the-variants as answers
 
@@ -25,8 +26,8 @@ pub record Outcome : Type 0 where
   pub answer : Told ℕ
   pub image : Image
 
-abbrev pub observed : Placed → List ℕ → List ℕ → Outcome
-observed answer pixels lines = record { answer = told answer; image = imageOf pixels lines }
+abbrev pub observed : Placed → Image → Outcome
+observed answer image = record { answer = told answer; image = image }
 
 -- A refusal: its number, and nothing lent changes.
 abbrev pub refused : ℕ → Image → Outcome
@@ -54,5 +55,15 @@ reported packet arrival wanted image r =
 -- 40, 43, then the report's 20 to 22, 30, 31 and 32, then 33, 41, 42. No packet has both 33 and 32: of 33 it isn't (128,7), of 32 it is.
 unfoldable pub outcome : List ℕ → ℕ → ℕ → Image → Outcome
 outcome packet arrival wanted image =
-    pick (ltb (length (image .pixels)) 22560 || ltb (length (image .lines)) 120) (refused imageShort image)
+    pick (ltb (length (image .pixels)) imageOctets || ltb (length (image .lines)) imageLines) (refused imageShort image)
     (pick (eqb arrival 0) (refused noArrival image) (reported packet arrival wanted image (readReport packet)))
+
+-- The contract of `place`: the packet with its arrival number and the wanted image, what is lent before, the answer and what is lent after.
+abbrev pub Places : List ℕ → ℕ → ℕ → Image → Placed → Image → Type 0
+Places packet arrival wanted before answer after = observed answer after ≡ outcome packet arrival wanted before
+
+-- A refusal tells 0 in every other field, and nothing lent changes.
+abbrev pub RefusalLeavesAll : Type 0
+RefusalLeavesAll =
+    (packet : List ℕ) (arrival wanted : ℕ) (before : Image) (answer : Placed) (after : Image)
+    → Places packet arrival wanted before answer after → told answer .accepted ≡ false → (told answer .fields ≡ 0) × (after ≡ before)

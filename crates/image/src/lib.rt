@@ -3,12 +3,19 @@ ghost use mathlib.Core.Path.{_≡_};
 ghost use lib.ListN.{length};
 ghost use Prim.Native.Nat.{_≤_, _<_};
 ghost use mathlib.Core.Bool.{not};
-ghost use Rattle.image.specs.Line.{imageOf, lineOf, same, heldOtherwise, number, placed, Fits};
-ghost use Rattle.image.specs.Placing.{observed, placing, brought, outcome};
+ghost use Rattle.image.specs.Line.{imageLines, imageOf, lineOf, same, heldOtherwise, number, placed, Fits};
+ghost use Rattle.image.specs.Placing.{observed, placing, brought, Places};
 ghost use Rattle.image.specs.Asked.{Brings};
 use report::Content;
+use report::Line;
 use report::Report;
 use report::ReportRead;
+
+// How many lines an image has: the least length of the list that is lent for their numbers.
+pub const LINES: usize = 120;
+
+// How many octets an image has: the least length of what is lent for its pixels.
+pub const OCTETS: usize = LINES * Line::PIXELS;
 
 // What placing answers: which line was placed, or the refusal's number.
 pub enum Placed {
@@ -49,13 +56,13 @@ fn number(held: u32, arrival: u32) -> u32
 
 // Refusal 42: line n is held, with other pixels.
 fn held_otherwise(n: usize, pixels: &[u8], image: &[u8], lines: &[u32]) -> bool
-    requires { ⌜ (n < 120) × (120 ≤ length (now lines)) ⌝ }
+    requires { ⌜ (n < imageLines) × (imageLines ≤ length (now lines)) ⌝ }
     ensures { λ r. ⌜ r ≡ heldOtherwise (imageOf (now (image .entry)) (now (lines .entry))) n (now (pixels .entry)) ⌝ }
 {
     if lines[n] == 0 {
         return false;
     }
-    other(octets::part(image, 188 * n, 188), pixels)
+    other(octets::part(image, Line::PIXELS * n, Line::PIXELS), pixels)
 }
 
 // Puts the pixels of line n at their place, and gives the line its number.
@@ -63,14 +70,14 @@ fn lay(n: usize, pixels: &[u8], arrival: u32, image: &mut [u8], lines: &mut [u32
     requires { ⌜ Fits (imageOf (now image) (now lines)) (lineOf n (now pixels) arrival) ⌝ }
     ensures { λ r. ⌜ imageOf (now (image .exit)) (now (lines .exit)) ≡ placed (imageOf (now (image .entry)) (now (lines .entry))) (lineOf n (now (pixels .entry)) arrival) ⌝ }
 {
-    octets::put(image, 188 * n, pixels);
+    octets::put(image, Line::PIXELS * n, pixels);
     lines[n] = number(lines[n], arrival);
 }
 
 // Places a line, unless it is held with other pixels: refusal 42, and nothing lent changes.
 fn place_line(line: u8, pixels: &[u8], arrival: u32, image: &mut [u8], lines: &mut [u32]) -> Placed
     requires { ⌜ Fits (imageOf (now image) (now lines)) (lineOf line (now pixels) arrival) ⌝ }
-    ensures { λ r. ⌜ observed r (now (image .exit)) (now (lines .exit)) ≡ placing (imageOf (now (image .entry)) (now (lines .entry))) (lineOf line (now (pixels .entry)) arrival) ⌝ }
+    ensures { λ r. ⌜ observed r (imageOf (now (image .exit)) (now (lines .exit))) ≡ placing (imageOf (now (image .entry)) (now (lines .entry))) (lineOf line (now (pixels .entry)) arrival) ⌝ }
 {
     let n = line as usize;
     if held_otherwise(n, pixels, image, lines) {
@@ -90,7 +97,7 @@ fn bring(
     lines: &mut [u32],
 ) -> Placed
     requires { ⌜ Brings content (now packet) (imageOf (now image) (now lines)) ⌝ }
-    ensures { λ r. ⌜ observed r (now (image .exit)) (now (lines .exit)) ≡ brought (now (packet .entry)) arrival wanted (imageOf (now (image .entry)) (now (lines .entry))) content ⌝ }
+    ensures { λ r. ⌜ observed r (imageOf (now (image .exit)) (now (lines .exit))) ≡ brought (now (packet .entry)) arrival wanted (imageOf (now (image .entry)) (now (lines .entry))) content ⌝ }
 {
     let Content::Line(l) = content else {
         return Placed::Refused(answer::NOT_LINE);
@@ -110,9 +117,9 @@ pub fn place(
     image: &mut [u8],
     lines: &mut [u32],
 ) -> Placed
-    ensures { λ r. ⌜ observed r (now (image .exit)) (now (lines .exit)) ≡ outcome (now (packet .entry)) arrival wanted (imageOf (now (image .entry)) (now (lines .entry))) ⌝ }
+    ensures { λ r. ⌜ Places (now (packet .entry)) arrival wanted (imageOf (now (image .entry)) (now (lines .entry))) r (imageOf (now (image .exit)) (now (lines .exit))) ⌝ }
 {
-    if (image.len() < 22560) | (lines.len() < 120) {
+    if (image.len() < OCTETS) | (lines.len() < LINES) {
         return Placed::Refused(answer::IMAGE_SHORT);
     }
     if arrival == 0 {

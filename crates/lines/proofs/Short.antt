@@ -1,30 +1,11 @@
--- No line of a frame or a packet is longer than 80 octets.
-use Prim.Native.Nat.{ℕ, zero, suc, _+_, _*_, _/_, _≤_}
+-- No line of a frame or a packet is longer than its greatest length.
+use Prim.Native.Nat.{ℕ, _+_, _*_, _≤_}
 use mathlib.Core.List.{List, [], _∷_, _++_}
-use mathlib.Core.Bool.{Bool, true, false}
 use native.Mathlib.Omega.{arith}
-use lib.Dec.{ltb}
 use lib.ListN.{length, length-append}
-use Rattle.octets.specs.Pick.{pick}
-use Rattle.lines.specs.Text.{decimalBelow, decimal, spaced, acceptedLine, refusedLine, packetLine, turnedAwayLine, LinesAreShort}
-
-either-short : {most : ℕ} (b : Bool) (x y : List ℕ) → length x ≤ most → length y ≤ most → length (pick b x y) ≤ most
-unfolding pick
-either-short true x y h k = h
-either-short false x y h k = k
-
-below-short : (k n : ℕ) → length (decimalBelow k n) ≤ k
-below-short zero n = omega arith
-below-short (suc k) n = either-short (ltb n 10) _ _ (omega arith) (simp length-append (omega (arith, below-short k (n / 10))))
-
-decimal-short : (n : ℕ) → length (decimal n) ≤ 10
-unfolding decimal
-decimal-short n = below-short 10 n
-
--- numbers and a text behind them
-spaced-short : (ns text : List ℕ) → length (spaced ns text) ≤ 11 * length ns + length text
-spaced-short [] text = omega arith
-spaced-short (n ∷ ns) text = simp length-append (omega (arith, decimal-short n, spaced-short ns text))
+use Rattle.decimal.specs.Text.{decimal, spaced}
+use Rattle.decimal.proofs.Short.{either-short, decimal-short, spaced-short}
+use Rattle.lines.specs.Text.{acceptedLine, refusedLine, packetLine, turnedAwayLine, LinesAreShort}
 
 -- numbers, and a last one
 numbers-short : (ns : List ℕ) (n : ℕ) → length (spaced ns (decimal n ++ (10 ∷ []))) ≤ 11 * length ns + 11

@@ -3,8 +3,7 @@ use Prim.Native.Nat.{ℕ}
 use mathlib.Core.List.{List}
 use denote.Ref.{now}
 use Rattle.octets.specs.Unique.{Fixes}
-use Rattle.answer.proofs.Writer.{one-written}
-use Rattle.answer.specs.declared.Written.{Written}
+use Rattle.decimal.proofs.Laid.{one-put}
 use Rattle.lines.proofs.header_line.Kinds as kheader
 use Rattle.lines.proofs.header_line.Reads as rheader
 use Rattle.lines.proofs.bad_line.Kinds as kbad
@@ -15,14 +14,14 @@ use Rattle.lines.proofs.packet_line.Kinds as kpacket
 use Rattle.lines.proofs.packet_line.Reads as rpacket
 
 -- the answer and the lent output afterwards
-pub header-line-fixed : Fixes kheader.ps kheader.r {A = Written × List ℕ} rheader.Post (λ κs x s. (x, now (s .0)))
-header-line-fixed κs a x y s t p q = one-written p q
+pub header-line-fixed : Fixes kheader.ps kheader.r {A = ℕ × List ℕ} rheader.Post (λ κs x s. (x, now (s .0)))
+header-line-fixed κs a x y s t p q = one-put p q
 
-pub bad-line-fixed : Fixes kbad.ps kbad.r {A = Written × List ℕ} rbad.Post (λ κs x s. (x, now (s .0)))
-bad-line-fixed κs a x y s t p q = one-written p q
+pub bad-line-fixed : Fixes kbad.ps kbad.r {A = ℕ × List ℕ} rbad.Post (λ κs x s. (x, now (s .0)))
+bad-line-fixed κs a x y s t p q = one-put p q
 
-pub answer-line-fixed : Fixes kanswer.ps kanswer.r {A = Written × List ℕ} ranswer.Post (λ κs x s. (x, now (s .0)))
-answer-line-fixed κs a x y s t p q = one-written p q
+pub answer-line-fixed : Fixes kanswer.ps kanswer.r {A = ℕ × List ℕ} ranswer.Post (λ κs x s. (x, now (s .0)))
+answer-line-fixed κs a x y s t p q = one-put p q
 
-pub packet-line-fixed : Fixes kpacket.ps kpacket.r {A = Written × List ℕ} rpacket.Post (λ κs x s. (x, now (s .0)))
-packet-line-fixed κs a x y s t p q = one-written p q
+pub packet-line-fixed : Fixes kpacket.ps kpacket.r {A = ℕ × List ℕ} rpacket.Post (λ κs x s. (x, now (s .0)))
+packet-line-fixed κs a x y s t p q = one-put p q

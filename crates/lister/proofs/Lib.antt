@@ -1,4 +1,2 @@
-pub mod Handed
 pub mod Moves
-pub mod Places
-pub mod Writing
+pub mod Turning

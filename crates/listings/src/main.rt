@@ -1,18 +1,17 @@
 // Lists the recordings of data/ one after another, each behind its name: good ones, and bad ones of every kind.
-use libc::STDIN_FILENO;
 use libc::STDOUT_FILENO;
 
-// Lists the recording in the file of that name, which takes the place of standard input.
+// Lists the recording in the file of that name.
 fn listed(name: &[u8]) {
     io::write_all(STDOUT_FILENO, name);
     io::write_all(STDOUT_FILENO, b":\n");
-    libc::close(STDIN_FILENO);
-    // The lowest number that is free: standard input's.
-    if os::open_read(name) == STDIN_FILENO {
-        lister::run();
-    } else {
+    let file = os::open_read(name);
+    if file < 0 {
         os::fail(name);
+        return;
     }
+    lister::run(b"listings", file);
+    libc::close(file);
 }
 
 // The recordings that are good.
@@ -23,6 +22,8 @@ fn good() {
     listed(b"length-0");
     listed(b"bad-packet");
     listed(b"address");
+    listed(b"every-number");
+    listed(b"long");
 }
 
 // The recordings that are bad.

@@ -11,6 +11,12 @@ pub passed : {A : Type 0} (b : Bool) (x y z : A) → b ≡ false → z ≡ y →
 unfolding pick
 passed b x y z h e = simp (h, e)
 
+-- what holds of both, each in its case, holds of the choice
+pub picks : {A : Type 0} (P : A → Type 0) (b : Bool) (x y : A) → (b ≡ true → P x) → (b ≡ false → P y) → P (pick b x y)
+unfolding pick
+picks P true x y p q = p refl
+picks P false x y p q = q refl
+
 -- a choice that came to z, which x is not, was not x
 pub not-picked : {A : Type 0} (b : Bool) (x y z : A) → pick b x y ≡ z → (x ≡ z → ⊥) → (b ≡ false) × (y ≡ z)
 unfolding pick

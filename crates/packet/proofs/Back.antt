@@ -1,38 +1,32 @@
 -- The packet's reader and its writer undo one another.
-use Prim.Native.Nat.{ℕ, suc, _+_, _-_, _/_, _%_, _≤_, _<_}
+use Prim.Native.Nat.{ℕ, _+_, _-_, _/_, _%_, _≤_, _<_}
 use native.Mathlib.Omega.{arith}
-use native.Mathlib.Nat.{add-zero}
 use mathlib.Core.Path.{_≡_, refl, sym, ap, _∙_}
-use mathlib.Core.List.{List, [], _++_}
+use mathlib.Core.List.{List, _++_}
 use mathlib.Core.Bool.{false}
 use borrow.Author.Tests.{le-ltb, eq-eqb}
-use lib.ListN.{length, take, drop, length-append, take-append-drop, drop-of-length-le, length-drop}
-use lib.Seq.{take-at, getD-append-add, take-add, length-take-le}
+use lib.ListN.{length, take, drop, length-drop}
+use lib.Seq.{take-at, take-add, length-take-le}
 use Rattle.octets.specs.Numbers.{at, word, wordOf}
 use Rattle.octets.specs.Pick.{pick}
 use Rattle.octets.proofs.Choices.{not-picked}
-use Rattle.octets.proofs.Laws.{word-of, word-high, word-low, five-of}
+use Rattle.octets.proofs.Laws.{word-high, word-low, five-of}
 use Rattle.octets.proofs.Placing.{part-some}
 use Rattle.octets.proofs.Runs.{run, run-is}
 use Rattle.octets.proofs.Tests.{facts}
 use Rattle.answer.specs.Told.{accept}
 use Rattle.answer.proofs.Told.{same-fields, refuse-or-accept}
-use Rattle.crc.specs.Check.{packetCheck}
-use Rattle.packet.specs.Packet.{lengthWrong, checkWrong, bitsWrong, fieldsOf, readPacket, sourceOf}
-use Rattle.packet.specs.Write.{fieldsWrong, InRange, headerOf, checked, packetOctets}
+use Rattle.bits.specs.Rows.{zeros}
+use Rattle.bits.specs.Rows.Order.{highFirst}
+use Rattle.crc.specs.Check.{packetCheck, withCheck, checkWrong}
+use Rattle.crc.proofs.Ends.{found}
+use Rattle.crc.proofs.Ends.{accepted as check-accepted}
+use Rattle.packet.specs.Packet.{lengthWrong, bitsWrong, fieldsOf, readPacket, sourceOf}
+use Rattle.packet.specs.Write.{fieldsWrong, headerOf, packetOctets}
+use Rattle.packet.specs.Asked.{InRange}
 use Rattle.packet.specs.Back.{ReadsBack, WritesBack}
 use Rattle.packet.proofs.Laws.{in-range, length-octets}
 use Rattle.packet.specs.declared.Packet.{Packet}
-
--- the check octets are those of the rest
-check-right : (b : List ℕ) → checkWrong (checked b) ≡ false
-unfolding checkWrong checked
-check-right b =
-    let k : ℕ = packetCheck b in
-    let l : length (b ++ wordOf k) ≡ length b + 2 = length-append b (wordOf k) in
-    let n₂ : length (b ++ wordOf k) - 2 ≡ length b + 0 = omega (arith, l) in
-    let n₁ : length (b ++ wordOf k) - 1 ≡ length b + 1 = omega (arith, l) in
-    simp (n₂, n₁, getD-append-add, take-at b (wordOf k) (length b + 0) (sym (add-zero (length b))), eq-eqb _ _ (word-of k))
 
 length-accepts : (s : List ℕ) → 16 ≤ length s → length s ≤ 251 → length s ≡ word (at s 4) (at s 5) + 7 → lengthWrong s ≡ false
 unfolding lengthWrong
@@ -49,20 +43,20 @@ module _ (p : Packet) (d : List ℕ) (right : fieldsWrong p (length d) ≡ false
   l = length-octets p d
 
   length-right : lengthWrong (packetOctets p d) ≡ false
-  unfolding packetOctets checked
+  unfolding packetOctets withCheck
   length-right =
       length-accepts (packetOctets p d) (omega (arith, l)) (omega (arith, l, r .length)) (omega (arith, l, r .same, r .length))
 
-  check-written : checkWrong (packetOctets p d) ≡ false
+  check-written : checkWrong highFirst (zeros 16) (packetOctets p d) ≡ false
   unfolding packetOctets
-  check-written = check-right (headerOf p ++ d)
+  check-written = found highFirst (zeros 16) (headerOf p ++ d)
 
   bits-right : bitsWrong (packetOctets p d) ≡ false
-  unfolding packetOctets checked
+  unfolding packetOctets withCheck
   bits-right = bits-accept (packetOctets p d) (omega (arith, r .apid)) (omega (arith, r .count)) refl
 
   fields-right : fieldsOf (packetOctets p d) ≡ p
-  unfolding fieldsOf packetOctets checked
+  unfolding fieldsOf packetOctets withCheck
   fields-right =
       let a : word ((8 + p .apid / 256) % 8) (p .apid % 256) ≡ p .apid = omega (arith, r .apid) in
       let c : word ((192 + p .sequence .0 / 256) % 64) (p .sequence .0 % 256) ≡ p .sequence .0 = omega (arith, r .count) in
@@ -70,7 +64,7 @@ module _ (p : Packet) (d : List ℕ) (right : fieldsWrong p (length d) ≡ false
       simp (a, c, five-of _ (r .time), n)
 
   source-right : sourceOf p (packetOctets p d) ≡ d
-  unfolding packetOctets checked
+  unfolding packetOctets withCheck
   source-right =
       sym (part-some (packetOctets p d) 14 (p .length) (omega (arith, l, r .same)))
       ∙ take-at d (wordOf (packetCheck (headerOf p ++ d))) (p .length) (sym (r .same))
@@ -89,20 +83,20 @@ pub record Accepted (s : List ℕ) (p : Packet) : Type 0 where
   pub least : 16 ≤ length s
   pub greatest : length s ≤ 251
   pub count : length s ≡ word (at s 4) (at s 5) + 7
-  pub check : word (at s (length s - 2)) (at s (length s - 1)) ≡ packetCheck (take (length s - 2) s)
+  pub check : checkWrong highFirst (zeros 16) s ≡ false
   pub first : at s 0 / 8 ≡ 1
   pub grouping : at s 2 / 64 ≡ 3
   pub pus : at s 6 ≡ 16
   pub fields : fieldsOf s ≡ p
 
 pub accepted : {s : List ℕ} {p : Packet} → readPacket s ≡ accept p → Accepted s p
-unfolding readPacket lengthWrong checkWrong
+unfolding readPacket lengthWrong
 accepted {s} {p} h =
     let a = not-picked (lengthWrong s) _ _ _ h refuse-or-accept in
-    let b = not-picked (checkWrong s) _ _ _ (a .1) refuse-or-accept in
+    let b = not-picked (checkWrong highFirst (zeros 16) s) _ _ _ (a .1) refuse-or-accept in
     let c = not-picked (bitsWrong s) _ _ _ (b .1) refuse-or-accept in
     let l : lengthWrong s ≡ false = a .0 in
-    let k : checkWrong s ≡ false = b .0 in
+    let k : checkWrong highFirst (zeros 16) s ≡ false = b .0 in
     let g : bitsWrong s ≡ false = c .0 in
     let f : fieldsOf s ≡ p = same-fields (c .1) in
     search facts
@@ -144,19 +138,11 @@ module _ (s : List ℕ) (p : Packet) (octet : (i : ℕ) → at s i < 256) (h : r
       (ap headerOf (sym (k .fields)) ∙ header-back ∙ sym (ap (take 14) (run-is 14 0 s (omega (arith, k .least)))))
       ∙ sym (take-add 14 (length s - 16) s) ∙ ap (λ (n : ℕ). take n s) (sym e)
 
-  end-back : checked (take (length s - 2) s) ≡ s
-  unfolding checked
-  end-back =
-      let n : ℕ = length s - 2 in
-      let e : suc n ≡ length s - 1 = omega (arith, k .least) in
-      let z : drop (n + 2) s ≡ [] = drop-of-length-le s {i = n + 2} (omega (arith, k .least)) in
-      let w : run n 2 s ≡ wordOf (packetCheck (take n s)) = simp (e, ← k .check, word-high, word-low, octet) in
-      ap (λ (x : List ℕ). take n s ++ x) (sym (run-is 2 n s (omega (arith, k .least)) ∙ simp (z, w)))
-      ∙ take-append-drop n s
-
   octets-back : packetOctets p (sourceOf p s) ≡ s
   unfolding packetOctets
-  octets-back = ap checked body-back ∙ end-back
+  octets-back =
+      ap (withCheck highFirst (zeros 16)) body-back
+      ∙ check-accepted highFirst (zeros 16) s (record { small = octet; two = omega (arith, k .least) }) (k .check)
 
   pub length-source : length (sourceOf p s) ≡ length s - 16
   length-source =

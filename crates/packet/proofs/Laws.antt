@@ -10,9 +10,10 @@ use Rattle.octets.specs.Numbers.{wordOf}
 use Rattle.octets.specs.Parts.{put, written}
 use Rattle.octets.proofs.Tests.{facts}
 use Rattle.octets.proofs.Placing.{put-first, put-next}
-use Rattle.crc.specs.Check.{packetCheck}
+use Rattle.crc.specs.Check.{packetCheck, withCheck}
 use Rattle.packet.specs.Packet.{lengthWrong}
-use Rattle.packet.specs.Write.{fieldsWrong, InRange, Room, headerOf, checked, packetOctets}
+use Rattle.packet.specs.Write.{fieldsWrong, headerOf, packetOctets}
+use Rattle.packet.specs.Asked.{InRange, Room}
 use Rattle.packet.specs.declared.Packet.{Packet}
 
 pub long-enough : (s : List ℕ) {said : Bool} → said ≡ lengthWrong s → said ≡ false → 16 ≤ length s
@@ -27,7 +28,7 @@ own-range p n r =
     record { apid = r .apid; count = r .count; time = r .time; length = omega (arith, r .length, r .same); same = refl }
 
 pub length-octets : (p : Packet) (source : List ℕ) → length (packetOctets p source) ≡ length source + 16
-unfolding packetOctets checked
+unfolding packetOctets withCheck
 length-octets p source = simp length-append (omega arith)
 
 module _ (p : Packet) (source out : List ℕ) where
@@ -50,7 +51,7 @@ module _ (p : Packet) (source out : List ℕ) where
       → out₁ ≡ put out 0 head → out₂ ≡ put out₁ 14 source → k ≡ packetCheck (take (length source + 14) out₂) → check ≡ wordOf k
       → out₃ ≡ put out₂ (length source + 14) check
       → out₃ ≡ written (packetOctets p source) out
-  unfolding packetOctets checked
+  unfolding packetOctets withCheck
   laid {out₁} {out₂} {k = k} room eh e₁ e₂ ek ec e₃ =
       let b : List ℕ = headerOf p ++ source in
       let lb : length source + 14 ≡ length b = simp length-append (omega arith) in
@@ -65,7 +66,7 @@ regroup h a b k = simp append-assoc
 -- what stands in a packet after the first octets a of its source data
 pub after-source : (p : Packet) (a b : List ℕ)
     → drop (14 + length a) (packetOctets p (a ++ b)) ≡ b ++ wordOf (packetCheck (headerOf p ++ (a ++ b)))
-unfolding packetOctets checked
+unfolding packetOctets withCheck
 after-source p a b =
     let k : List ℕ = wordOf (packetCheck (headerOf p ++ (a ++ b))) in
     ap (drop (14 + length a)) (regroup (headerOf p) a b k)

@@ -1,12 +1,15 @@
--- No two answers of the reader are told alike.
+-- No two answers of the reader are told alike, and a refusal tells 0 in every field.
 use Prim.Native.Nat.{ℕ}
 use mathlib.Core.Path.{_≡_, refl, ap}
 use mathlib.Core.List.{List}
-use mathlib.Core.Bool.{Bool, true, false, false≢true}
+use mathlib.Core.Bool.{Bool, true, false, true≢false, false≢true}
 use Rattle.octets.specs.Pick.{pick}
 use Rattle.answer.specs.Told.{accept, refuse}
 use Rattle.answer.proofs.Told.{same-fields, same-refusal, accept-or-refuse, refuse-or-accept}
-use Rattle.packet.specs.Packet.{lengthWrong, checkWrong, bitsWrong, fieldsOf, noPacket, told, readPacket}
+use Rattle.bits.specs.Rows.{zeros}
+use Rattle.bits.specs.Rows.Order.{highFirst}
+use Rattle.crc.specs.Check.{checkWrong}
+use Rattle.packet.specs.Packet.{lengthWrong, bitsWrong, fieldsOf, noPacket, told, RefusalsTellNothing, readPacket}
 use Rattle.packet.specs.declared.Packet.{Packet}
 use Rattle.packet.specs.declared.PacketRead.{PacketRead}
 use Rattle.packet.specs.declared.PacketRead.the-variants as read
@@ -16,6 +19,10 @@ told-apart (read.Packet p) (read.Packet q) h = ap read.Packet (same-fields h)
 told-apart (read.Refused n) (read.Refused m) h = ap read.Refused (same-refusal h)
 told-apart (read.Packet p) (read.Refused m) h = accept-or-refuse h
 told-apart (read.Refused n) (read.Packet q) h = refuse-or-accept h
+
+pub refusals-tell-nothing : RefusalsTellNothing
+refusals-tell-nothing (read.Packet p) h = absurd (true≢false h)
+refusals-tell-nothing (read.Refused n) h = refl
 
 -- an answer that accepts tells no refusal
 whole : (a b c : Bool) (l m n : ℕ) (p : Packet)
@@ -30,4 +37,4 @@ whole false false false l m n p h = refl
 
 pub accepts : (s : List ℕ) → readPacket s .accepted ≡ true → readPacket s ≡ accept (readPacket s .fields)
 unfolding readPacket
-accepts s h = whole (lengthWrong s) (checkWrong s) (bitsWrong s) 20 21 22 (fieldsOf s) h
+accepts s h = whole (lengthWrong s) (checkWrong highFirst (zeros 16) s) (bitsWrong s) 20 21 22 (fieldsOf s) h

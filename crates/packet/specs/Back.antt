@@ -6,9 +6,12 @@ use mathlib.Core.Bool.{false}
 use lib.ListN.{length}
 use Rattle.octets.specs.Numbers.{at}
 use Rattle.answer.specs.Told.{accept}
-use Rattle.packet.specs.Packet.{readPacket, sourceOf}
+use Rattle.answer.specs.Back.{Format, CallsReadBack, CallsWriteBack}
+use Rattle.packet.specs.Packet.{told, readPacket, sourceOf}
 use Rattle.packet.specs.Write.{fieldsWrong, packetOctets}
 use Rattle.packet.specs.declared.Packet.{Packet}
+use Rattle.packet.specs.declared.PacketRead.{PacketRead}
+use Rattle.packet.specs.declared.PacketRead.the-variants as read
 
 -- What was written is accepted and reads back to the same fields and source data.
 pub record ReadBack (p : Packet) (d : List ℕ) : Type 0 where
@@ -25,3 +28,18 @@ pub record WrittenBack (p : Packet) (s : List ℕ) : Type 0 where
 
 abbrev pub WritesBack : Type 0
 WritesBack = (s : List ℕ) (p : Packet) → ((i : ℕ) → at s i < 256) → readPacket s ≡ accept p → WrittenBack p s
+
+-- The same over the calls `write`, `read` and `source`: beside a packet's fields stands its source data.
+abbrev pub format : Format Packet (List ℕ) PacketRead
+format =
+    record {
+      wrong = λ p d. fieldsWrong p (length d);
+      octets = packetOctets;
+      reading = readPacket;
+      told = told;
+      accepting = read.Packet;
+      beside = sourceOf;
+    }
+
+abbrev pub CallsBack : Type 0
+CallsBack = CallsReadBack format × CallsWriteBack format

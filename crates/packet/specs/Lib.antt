@@ -1,3 +1,5 @@
+pub mod Limits
 pub mod Packet
 pub mod Write
 pub mod Back
+pub mod Asked

@@ -3,9 +3,13 @@ ghost use mathlib.Core.Path.{_≡_};
 ghost use lib.ListN.{length};
 ghost use Prim.Native.Nat.{_≤_};
 ghost use Rattle.octets.specs.Parts.{written};
-ghost use Rattle.answer.specs.Writer.{Wrote};
-ghost use Rattle.packet.specs.Packet.{lengthWrong, checkWrong, bitsWrong, fieldsOf, told, readPacket, sourceOf};
-ghost use Rattle.packet.specs.Write.{fieldsWrong, InRange, Room, headerOf, packetOctets};
+ghost use Rattle.bits.specs.Rows.{zeros};
+ghost use Rattle.bits.specs.Rows.Order.{highFirst};
+ghost use Rattle.crc.specs.Check.{checkWrong};
+ghost use Rattle.packet.specs.Packet.{lengthWrong, bitsWrong, fieldsOf, told, readPacket, sourceOf};
+ghost use Rattle.packet.specs.Write.{fieldsWrong, headerOf, packetOctets, WrotePacket};
+ghost use Rattle.packet.specs.Asked.{InRange, Room};
+ghost use Rattle.packet.specs.Limits.{leastLength};
 use answer::Written;
 use counts::SequenceCount;
 
@@ -38,8 +42,8 @@ fn length_wrong(s: &[u8]) -> bool
 
 // Refusal 21: the last two octets aren't the check of all before them.
 fn check_wrong(s: &[u8]) -> bool
-    requires { ⌜ 16 ≤ length (now s) ⌝ }
-    ensures { λ r. ⌜ r ≡ checkWrong (now (s .entry)) ⌝ }
+    requires { ⌜ leastLength ≤ length (now s) ⌝ }
+    ensures { λ r. ⌜ r ≡ checkWrong highFirst (zeros 16) (now (s .entry)) ⌝ }
 {
     let n = s.len();
     octets::word(s[n - 2], s[n - 1]) != crc::packet_check(&s[..n - 2])
@@ -47,7 +51,7 @@ fn check_wrong(s: &[u8]) -> bool
 
 // Refusal 22: not version 000, type 0, header flag 1; grouping 11; spare 0, PUS version 001, spare 0000.
 fn bits_wrong(s: &[u8]) -> bool
-    requires { ⌜ 16 ≤ length (now s) ⌝ }
+    requires { ⌜ leastLength ≤ length (now s) ⌝ }
     ensures { λ r. ⌜ r ≡ bitsWrong (now (s .entry)) ⌝ }
 {
     (s[0] / 8 != 1) | (s[2] / 64 != 3) | (s[6] != 16)
@@ -55,7 +59,7 @@ fn bits_wrong(s: &[u8]) -> bool
 
 // The fields of a packet that was not refused.
 fn fields(s: &[u8]) -> Packet
-    requires { ⌜ 16 ≤ length (now s) ⌝ }
+    requires { ⌜ leastLength ≤ length (now s) ⌝ }
     ensures { λ r. ⌜ r ≡ fieldsOf (now (s .entry)) ⌝ }
 {
     Packet {
@@ -72,10 +76,10 @@ fn fields(s: &[u8]) -> Packet
 fn fields_wrong(p: Packet, n: usize) -> bool
     ensures { λ r. ⌜ r ≡ fieldsWrong p n ⌝ }
 {
-    (2047 < p.apid)
-        | (16383 < p.sequence.0)
-        | (1099511627775 < p.time)
-        | (Packet::GREATEST - Packet::LEAST < n)
+    (Packet::LAST_APID < p.apid)
+        | (Packet::LAST_COUNT < p.sequence.0)
+        | (Packet::LAST_TIME < p.time)
+        | (Packet::LONGEST_SOURCE < n)
         | (p.length != n)
 }
 
@@ -126,6 +130,16 @@ impl Packet {
 
     pub const SOURCE: usize = 14;
 
+    // The most octets of source data.
+    pub const LONGEST_SOURCE: usize = Packet::GREATEST - Packet::LEAST;
+
+    // The last APID (11 bits), source sequence count (14) and time (40).
+    pub const LAST_APID: u16 = 2047;
+
+    pub const LAST_COUNT: u16 = 16383;
+
+    pub const LAST_TIME: u64 = 1099511627775;
+
     // The fields of the packet that octets are, or refusal 20, 21 or 22, the first that holds.
     pub fn read(octets: &[u8]) -> PacketRead
         ensures { λ r. ⌜ told r ≡ readPacket (now (octets .entry)) ⌝ }
@@ -150,10 +164,9 @@ impl Packet {
         octets::part(octets, Packet::SOURCE, n)
     }
 
-    // Writes the packet of these fields and this source data to the start of out and answers its length; beyond it out stays.
-    // Refusal 51: a field out of range, or a length that isn't the source data's; 50: out too short. Then out stays whole.
+    // The packet's octets at the start of out, and their number; else 51 or 50, and out stays.
     pub fn write(self, source: &[u8], out: &mut [u8]) -> Written
-        ensures { λ r. ⌜ Wrote (fieldsWrong self (length (now (source .entry)))) (packetOctets self (now (source .entry))) (now (out .entry)) r (now (out .exit)) ⌝ }
+        ensures { λ r. ⌜ WrotePacket self (now (source .entry)) (now (out .entry)) r (now (out .exit)) ⌝ }
     {
         let n = source.len();
         if fields_wrong(self, n) {

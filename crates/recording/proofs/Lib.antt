@@ -1,3 +1,4 @@
 pub mod Pieces
+pub mod Scanning
 pub mod Sections
 pub mod Unique

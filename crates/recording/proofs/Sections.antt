@@ -7,7 +7,7 @@ use lib.ListN.{length}
 use borrow.Author.Tests.{lt-ltb, le-ltb, eq-eqb, ne-eqb}
 use Rattle.octets.specs.Numbers.{at, four}
 use Rattle.octets.specs.Pick.{pick}
-use Rattle.recording.specs.Sections.{whole, wrong, missing, settingsAt, countAt, frameAt, lengthAt}
+use Rattle.recording.specs.Sections.{longestFrame, whole, wrong, missing, settingsAt, countAt, frameAt, lengthAt}
 
 abbrev pub countOf : List ℕ → ℕ
 countOf w = four (at w 0) (at w 1) (at w 2) (at w 3)
@@ -47,14 +47,14 @@ module _ (w : List ℕ) where
   frame-short a = simp (lt-ltb _ _ a)
 
   module _ {n : ℕ} (e : n ≡ lengthAt w) (a : 2 ≤ length w) where
-    pub frame-long : 1024 < n → wrong ≡ frameAt w
+    pub frame-long : longestFrame < n → wrong ≡ frameAt w
     unfolding frameAt pick
     frame-long b = simp (le-ltb _ _ a, lt-ltb _ _ (rw e at b))
 
-    pub frame-cut : n ≤ 1024 → length w < 2 + n → missing (2 + n - length w) ≡ frameAt w
+    pub frame-cut : n ≤ longestFrame → length w < 2 + n → missing (2 + n - length w) ≡ frameAt w
     unfolding frameAt pick
     frame-cut b c = simp (le-ltb _ _ a, le-ltb _ _ (rw e at b), lt-ltb _ _ (rw e at c), e)
 
-    pub frame-whole : n ≤ 1024 → 2 + n ≤ length w → whole n ≡ frameAt w
+    pub frame-whole : n ≤ longestFrame → 2 + n ≤ length w → whole n ≡ frameAt w
     unfolding frameAt pick
     frame-whole b c = simp (le-ltb _ _ a, le-ltb _ _ (rw e at b), le-ltb _ _ (rw e at c), e)

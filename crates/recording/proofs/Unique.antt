@@ -2,7 +2,7 @@
 use mathlib.Core.Path.{_≡_, refl, sym, ap}
 use mathlib.Core.Bool.{true≢false}
 use Rattle.octets.specs.Unique.{Fixes}
-use Rattle.octets.proofs.Fixed.{fixed-told}
+use Rattle.octets.proofs.Fixed.{fixed, fixed-told}
 use Rattle.recording.specs.Sections.{Seen, told}
 use Rattle.recording.specs.declared.Section.{Section}
 use Rattle.recording.specs.declared.Section.the-variants.{Missing, Bad, Whole}
@@ -12,6 +12,8 @@ use Rattle.recording.proofs.count.Kinds as kcount
 use Rattle.recording.proofs.count.Reads as rcount
 use Rattle.recording.proofs.frame.Kinds as kframe
 use Rattle.recording.proofs.frame.Reads as rframe
+use Rattle.recording.proofs.Reader.scan.Kinds as kscan
+use Rattle.recording.proofs.Reader.scan.Reads as rscan
 
 -- no two answers are told alike
 pub told-apart : (x y : Section) → told x ≡ told y → x ≡ y
@@ -33,3 +35,6 @@ count-fixed = fixed-told kcount.ps kcount.r rcount.Post _ told told-apart _ (λ 
 
 pub frame-fixed : Fixes kframe.ps kframe.r rframe.Post (λ κs x s. x)
 frame-fixed = fixed-told kframe.ps kframe.r rframe.Post _ told told-apart _ (λ κs a x s p. p)
+
+pub scan-fixed : Fixes kscan.ps kscan.r rscan.Post (λ κs x s. x)
+scan-fixed = fixed kscan.ps kscan.r rscan.Post _ _ (λ κs a x s p. p)

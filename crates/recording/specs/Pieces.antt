@@ -1,8 +1,6 @@
--- A recording that comes in pieces: what is found in it, as each piece comes.
+-- What is found in a recording's octets, as far as they have come.
 use Prim.Native.Nat.{ℕ, zero, suc, _+_}
-use mathlib.Core.Path.{_≡_}
 use mathlib.Core.List.{List, [], _∷_, _++_}
-use mathlib.Core.Bool.{Bool, false}
 use lib.ListN.{length, take, drop}
 use lib.Dec.{eqb}
 use Rattle.octets.specs.Pick.{pick}
@@ -56,31 +54,3 @@ found (settings w) = settingsIn w
 found (count w) = countIn w
 found (frames n w) = framesIn n w
 found bad = nothing bad
-
--- The same state with a piece more behind its octets.
-abbrev pub more : State → List ℕ → State
-more (settings w) piece = settings (w ++ piece)
-more (count w) piece = count (w ++ piece)
-more (frames n w) piece = frames n (w ++ piece)
-more bad piece = bad
-
--- What is found as the pieces come one after another.
-abbrev pub inPieces : State → List (List ℕ) → Found
-inPieces s [] = nothing s
-inPieces s (piece ∷ pieces) = joined (found (more s piece)) (inPieces (found (more s piece) .state) pieces)
-
--- The pieces end to end.
-abbrev pub endToEnd : List (List ℕ) → List ℕ
-endToEnd [] = []
-endToEnd (piece ∷ pieces) = piece ++ endToEnd pieces
-
--- However a recording's octets come in pieces, what is found is what is found in the whole.
-abbrev pub PiecesAreTheWhole : Type 0
-PiecesAreTheWhole = (pieces : List (List ℕ)) → inPieces (settings []) pieces ≡ found (settings (endToEnd pieces))
-
--- At the input's end a recording is good if it has all its frames; octets after the last are bad already.
-abbrev pub good : State → Bool
-good (settings w) = false
-good (count w) = false
-good (frames n w) = eqb n 0
-good bad = false

@@ -9,6 +9,13 @@ use Rattle.octets.specs.Pick.{pick}
 use Rattle.recording.specs.declared.Section.{Section}
 use Rattle.recording.specs.declared.Section.the-variants.{Missing, Bad, Whole}
 
+-- The greatest length of a recording's frame, and of what must be at hand to tell more: a frame and its length.
+abbrev pub longestFrame : ℕ
+longestFrame = 1024
+
+abbrev pub leastWindow : ℕ
+leastWindow = 2 + longestFrame
+
 -- Whether a section stands there whole, whether what stands there is bad, and a number: the section's, 0 if bad,
 -- else how many octets are missing before more can be told.
 pub record Seen : Type 0 where
@@ -48,5 +55,5 @@ lengthAt w = word (at w 0) (at w 1)
 unfoldable pub frameAt : List ℕ → Seen
 frameAt w =
     pick (ltb (length w) 2) (missing (2 - length w))
-    (pick (ltb 1024 (lengthAt w)) wrong
+    (pick (ltb longestFrame (lengthAt w)) wrong
     (pick (ltb (length w) (2 + lengthAt w)) (missing (2 + lengthAt w - length w)) (whole (lengthAt w))))

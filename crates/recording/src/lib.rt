@@ -1,7 +1,126 @@
 // A recording's sections in a window of octets.
 // Nothing here reads a file: a window is octets read and not yet used.
 ghost use mathlib.Core.Path.{_≡_};
+ghost use Rattle.recording.specs.Reader.{scanned, waiting, stopped};
 ghost use Rattle.recording.specs.Sections.{told, settingsAt, countAt, frameAt};
+
+// The greatest length of a frame.
+pub const FRAME: usize = 1024;
+// The least window in which more can always be told: a frame and its length.
+pub const WINDOW: usize = 2 + FRAME;
+
+// How far a recording is read: the section that comes next.
+pub enum Reader {
+    Settings,
+    Count,
+    // So many frames are still to come.
+    Frames(usize),
+    // Nothing more is read of a bad recording.
+    Bad,
+}
+
+// What was found at a window's start.
+pub enum Taken {
+    // That many octets are missing before more can be told.
+    Missing(usize),
+    // What may not stand there.
+    Bad,
+    // The recording was bad before.
+    Over,
+    // t, which is accepted.
+    Opened(usize),
+    // Octets that nothing is told of.
+    Nothing,
+    // A frame: the window's octets from the first index up to the second.
+    Here(usize, usize),
+}
+
+// The reader behind what was found, and how many octets of the window are used with it.
+pub struct Scanned {
+    pub reader: Reader,
+    pub used: usize,
+    pub taken: Taken,
+}
+
+impl Reader {
+    // The section at the window's start.
+    pub fn scan(self, window: &[u8]) -> Scanned
+        ensures { λ r. ⌜ r ≡ scanned self (now (window .entry)) ⌝ }
+    {
+        match self {
+            Reader::Settings => match settings(window) {
+                Section::Missing(n) => Reader::waits(self, n),
+                Section::Bad => Reader::stopped(),
+                Section::Whole(t) => Scanned {
+                    reader: Reader::Count,
+                    used: 5,
+                    taken: Taken::Opened(t),
+                },
+            },
+            Reader::Count => match count(window) {
+                Section::Missing(n) => Reader::waits(self, n),
+                Section::Bad => Reader::stopped(),
+                Section::Whole(n) => Scanned {
+                    reader: Reader::Frames(n),
+                    used: 4,
+                    taken: Taken::Nothing,
+                },
+            },
+            Reader::Frames(left) => Reader::frames(left, window),
+            Reader::Bad => Scanned {
+                reader: Reader::Bad,
+                used: 0,
+                taken: Taken::Over,
+            },
+        }
+    }
+
+    // The next of so many frames.
+    fn frames(left: usize, window: &[u8]) -> Scanned
+        ensures { λ r. ⌜ r ≡ scanned (Reader.Frames left) (now (window .entry)) ⌝ }
+    {
+        if left == 0 {
+            if window.len() == 0 {
+                return Reader::waits(Reader::Frames(left), 1);
+            }
+            return Reader::stopped();
+        }
+        match frame(window) {
+            Section::Missing(n) => Reader::waits(Reader::Frames(left), n),
+            Section::Bad => Reader::stopped(),
+            Section::Whole(n) => {
+                let to = 2 + n;
+                Scanned {
+                    reader: Reader::Frames(left - 1),
+                    used: to,
+                    taken: Taken::Here(2, to),
+                }
+            }
+        }
+    }
+
+    // Nothing yet.
+    fn waits(self, n: usize) -> Scanned
+        ensures { λ r. ⌜ r ≡ waiting self n ⌝ }
+    {
+        Scanned {
+            reader: self,
+            used: 0,
+            taken: Taken::Missing(n),
+        }
+    }
+
+    // A bad recording.
+    fn stopped() -> Scanned
+        ensures { λ r. ⌜ r ≡ stopped ⌝ }
+    {
+        Scanned {
+            reader: Reader::Bad,
+            used: 0,
+            taken: Taken::Bad,
+        }
+    }
+}
 
 // What stands at a window's start.
 pub enum Section {
@@ -53,7 +172,7 @@ pub fn frame(window: &[u8]) -> Section
         return Section::Missing(2 - n);
     }
     let length = octets::word(window[0], window[1]) as usize;
-    if 1024 < length {
+    if FRAME < length {
         return Section::Bad;
     }
     if n < 2 + length {

@@ -12,8 +12,10 @@ use Rattle.octets.specs.Parts.{part}
 use Rattle.octets.proofs.Laws.{word-of, word-high, word-low}
 use Rattle.octets.proofs.Runs.{run, part-run, part-two}
 use Rattle.octets.proofs.Tests.{or-left, or-right}
+use Rattle.crc.specs.Check.{withCheck}
 use Rattle.packet.specs.Packet.{sourceOf}
-use Rattle.packet.specs.Write.{fieldsWrong, InRange, checked, packetOctets}
+use Rattle.packet.specs.Write.{fieldsWrong, packetOctets}
+use Rattle.packet.specs.Asked.{InRange}
 use Rattle.packet.proofs.Laws.{in-range, length-octets, after-source}
 use Rattle.packet.proofs.Back.{length-of}
 use Rattle.packet.proofs.Back.{reads-back as packet-reads-back, writes-back as packet-writes-back}
@@ -57,7 +59,7 @@ module _ (p : Packet) (s : List ℕ) (c : Content) where
 -- the numbers of each report read back, whatever stands after them
 written-read : (p : Packet) (c : Content) (rest : List ℕ) → pairWrong p c ≡ false → lineWrong c ≡ false
     → p .length ≡ length (numbersOf c) + total (lengthsOf c) → p .length ≤ 235 → Read p (packetOctets p (numbersOf c ++ rest)) c
-unfolding packetOctets checked
+unfolding packetOctets withCheck
 written-read p (Success c) rest pr li n g =
     read-as p (packetOctets p (numbersOf (Success c) ++ rest)) (Success c) (of-success p (not-false _ pr))
     (omega arith) (omega arith) refl (simp word-of)

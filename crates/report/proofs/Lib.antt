@@ -2,8 +2,10 @@ pub mod Search
 pub mod Known
 pub mod Read
 pub mod Told
+pub mod Tells
 pub mod Accepted
 pub mod Write
 pub mod Strings
 pub mod Back
+pub mod Calls
 pub mod Unique

@@ -1,15 +1,16 @@
 -- Document 01, 'Reports': what reading one gives. A packet's source data starts at its octet 14.
 use Prim.Native.Nat.{ℕ, _-_}
-use mathlib.Core.List.{List}
+use mathlib.Core.List.{List, [], _∷_, _++_}
 use mathlib.Core.Bool.{Bool, _&&_, _||_}
 use lib.Dec.{ltb}
 use Rattle.octets.specs.Numbers.{at, word, four}
 use Rattle.octets.specs.Parts.{part}
 use Rattle.octets.specs.Pick.{pick}
-use Rattle.answer.specs.Told.{Told, accept, refuse}
+use Rattle.answer.specs.Told.{Told, accept, refuse, TellsNothing}
 use Rattle.answer.specs.Refusals as refusal
-use Rattle.packet.specs.Packet.{noPacket, readPacket}
+use Rattle.packet.specs.Packet.{noPacket, packetNumbers, readPacket}
 use Rattle.packet.specs.declared.Packet.{Packet}
+use Rattle.report.specs.Limits.{lastLine, pixelsLength, blockLength}
 use Rattle.report.specs.Table.{findPair, success, failure, housekeeping, available, imageLine}
 use Rattle.report.specs.declared.table.Pair.{Pair}
 use Rattle.report.specs.declared.table.Found.{Found}
@@ -45,17 +46,17 @@ abbrev pub availableOf : List ℕ → Available
 availableOf s = record { image = word (at s 14) (at s 15); ticks = four (at s 16) (at s 17) (at s 18) (at s 19) }
 
 abbrev pub firstBlock : List ℕ → List ℕ
-firstBlock s = part s 20 80
+firstBlock s = part s 20 blockLength
 
 abbrev pub secondBlock : List ℕ → List ℕ
-secondBlock s = part s 100 80
+secondBlock s = part s 100 blockLength
 
 -- Image number (2), line (1), 188 pixels.
 abbrev pub lineOf : List ℕ → Line
 lineOf s = record { image = word (at s 14) (at s 15); line = at s 16 }
 
 abbrev pub pixelsOf : List ℕ → List ℕ
-pixelsOf s = part s 17 188
+pixelsOf s = part s 17 pixelsLength
 
 -- The content of a packet of a known pair.
 unfoldable pub contentOf : Packet → List ℕ → Content
@@ -69,18 +70,32 @@ contentOf p s =
 abbrev pub noReport : Report
 noReport = record { packet = noPacket; content = content.Success (record { id = 0; control = 0 }) }
 
+-- The numbers of a report's fields: in a refusal's answer each is 0.
+abbrev pub contentNumbers : Content → List ℕ
+contentNumbers (content.Success c) = c .id ∷ c .control ∷ []
+contentNumbers (content.Failure c) = c .id ∷ c .control ∷ c .code ∷ []
+contentNumbers (content.Housekeeping c) = c .sid ∷ c .length ∷ []
+contentNumbers (content.Available c) = c .image ∷ c .ticks ∷ []
+contentNumbers (content.Line c) = c .image ∷ c .line ∷ []
+
+abbrev pub reportNumbers : Report → List ℕ
+reportNumbers r = packetNumbers (r .packet) ++ contentNumbers (r .content)
+
 -- A reader's answer tells the packet's fields and the content, or the refusal and 0 in every field.
 abbrev pub told : ReportRead → Told Report
 told (read.Report r) = accept r
 told (read.Refused n) = refuse noReport n
 
+abbrev pub RefusalsTellNothing : Type 0
+RefusalsTellNothing = TellsNothing told reportNumbers
+
 -- Refusal 31: shorter than the pair's least length or longer than its greatest.
 abbrev pub lengthWrong : Packet → Pair → Bool
 lengthWrong p e = ltb (p .length) (e .least) || ltb (e .greatest) (p .length)
 
--- Refusal 32: an image line above 119.
+-- Refusal 32: an image line above the last.
 unfoldable pub lineAbove : Packet → List ℕ → Bool
-lineAbove p s = imageLine p && ltb 119 (at s 16)
+lineAbove p s = imageLine p && ltb lastLine (at s 16)
 
 -- 30 where the search found no pair, then 31, 32, else the report.
 unfoldable pub inPair : Found → Packet → List ℕ → Told Report

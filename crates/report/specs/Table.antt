@@ -4,6 +4,7 @@ use mathlib.Core.List.{List, [], _∷_}
 use mathlib.Core.Bool.{Bool, _&&_, _||_}
 use lib.Dec.{eqb}
 use Rattle.octets.specs.Pick.{pick}
+use Rattle.packet.specs.Limits.{longestSource}
 use Rattle.packet.specs.declared.Packet.{Packet}
 use Rattle.report.specs.declared.table.Pair.{Pair}
 use Rattle.report.specs.declared.table.Found.{Found}
@@ -15,7 +16,7 @@ pair service subtype least greatest = record { service = service; subtype = subt
 
 abbrev pub pairs : List Pair
 pairs =
-    pair 1 1 4 4 ∷ pair 1 3 4 4 ∷ pair 1 7 4 4 ∷ pair 1 2 6 6 ∷ pair 1 4 6 6 ∷ pair 1 8 6 6 ∷ pair 3 25 1 235 ∷
+    pair 1 1 4 4 ∷ pair 1 3 4 4 ∷ pair 1 7 4 4 ∷ pair 1 2 6 6 ∷ pair 1 4 6 6 ∷ pair 1 8 6 6 ∷ pair 3 25 1 longestSource ∷
     pair 128 3 166 166 ∷ pair 128 7 191 191 ∷ []
 
 -- The first pair of the list with this service type and subtype.

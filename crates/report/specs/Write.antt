@@ -9,6 +9,7 @@ use Rattle.answer.specs.Writer.{Wrote}
 use Rattle.answer.specs.declared.Written.{Written}
 use Rattle.packet.specs.Write.{fieldsWrong, packetOctets}
 use Rattle.packet.specs.declared.Packet.{Packet}
+use Rattle.report.specs.Limits.{lastLine, pixelsLength, blockLength}
 use Rattle.report.specs.Table.{success, failure, housekeeping, available, imageLine}
 use Rattle.report.specs.Report.{restOf, firstBlock, secondBlock, pixelsOf}
 use Rattle.report.specs.declared.Content.{Content}
@@ -28,8 +29,8 @@ abbrev pub lengthsOf : Content → List ℕ
 lengthsOf (Success c) = []
 lengthsOf (Failure c) = []
 lengthsOf (Housekeeping c) = c .length ∷ []
-lengthsOf (Available c) = 80 ∷ 80 ∷ []
-lengthsOf (Line c) = 188 ∷ []
+lengthsOf (Available c) = blockLength ∷ blockLength ∷ []
+lengthsOf (Line c) = pixelsLength ∷ []
 
 abbrev pub stringsOf : Content → List ℕ → List (List ℕ)
 stringsOf (Success c) s = []
@@ -65,13 +66,13 @@ lengthsWrong [] (x ∷ xs) = true
 lengthsWrong (n ∷ ns) [] = true
 lengthsWrong (n ∷ ns) (x ∷ xs) = not (eqb (length x) n) || lengthsWrong ns xs
 
--- The line is above 119.
+-- The line is above the last.
 abbrev pub lineWrong : Content → Bool
 lineWrong (Success c) = false
 lineWrong (Failure c) = false
 lineWrong (Housekeeping c) = false
 lineWrong (Available c) = false
-lineWrong (Line c) = ltb 119 (c .line)
+lineWrong (Line c) = ltb lastLine (c .line)
 
 abbrev pub contentWrong : Packet → Content → List (List ℕ) → Bool
 contentWrong p c strings = pairWrong p c || lengthsWrong (lengthsOf c) strings || lineWrong c

@@ -2,17 +2,18 @@
 ghost use mathlib.Core.Path.{_≡_};
 ghost use Rattle.report.specs.Table.{findPair, success, failure, housekeeping, available, imageLine};
 ghost use Rattle.report.specs.Promised.{Tells};
+use packet::Packet;
 
 // A pair of service type and subtype, with the least and the greatest length of its source data.
-pub struct Pair {
-    pub service: u8,
-    pub subtype: u8,
-    pub least: usize,
-    pub greatest: usize,
+pub(crate) struct Pair {
+    pub(crate) service: u8,
+    pub(crate) subtype: u8,
+    pub(crate) least: usize,
+    pub(crate) greatest: usize,
 }
 
 // What the search gives.
-pub enum Found {
+pub(crate) enum Found {
     Pair(Pair),
     Unknown,
 }
@@ -58,7 +59,7 @@ const PAIRS: [Pair; 9] = [
         service: 3,
         subtype: 25,
         least: 1,
-        greatest: 235,
+        greatest: Packet::LONGEST_SOURCE,
     },
     Pair {
         service: 128,
@@ -75,7 +76,7 @@ const PAIRS: [Pair; 9] = [
 ];
 
 // The table's pair of this service type and subtype.
-pub fn find(service: u8, subtype: u8) -> Found
+pub(crate) fn find(service: u8, subtype: u8) -> Found
     ensures { λ r. ⌜ r ≡ findPair service subtype ⌝ }
 {
     let pairs = PAIRS;
@@ -91,35 +92,35 @@ pub fn find(service: u8, subtype: u8) -> Found
 }
 
 // Verification success: (1,1), (1,3), (1,7).
-pub fn success(service: u8, subtype: u8) -> bool
+pub(crate) fn success(service: u8, subtype: u8) -> bool
     ensures { λ r. ⌜ Tells success service subtype r ⌝ }
 {
     (service == 1) & ((subtype == 1) | (subtype == 3) | (subtype == 7))
 }
 
 // Verification failure: (1,2), (1,4), (1,8).
-pub fn failure(service: u8, subtype: u8) -> bool
+pub(crate) fn failure(service: u8, subtype: u8) -> bool
     ensures { λ r. ⌜ Tells failure service subtype r ⌝ }
 {
     (service == 1) & ((subtype == 2) | (subtype == 4) | (subtype == 8))
 }
 
 // Housekeeping: (3,25).
-pub fn housekeeping(service: u8, subtype: u8) -> bool
+pub(crate) fn housekeeping(service: u8, subtype: u8) -> bool
     ensures { λ r. ⌜ Tells housekeeping service subtype r ⌝ }
 {
     (service == 3) & (subtype == 25)
 }
 
 // Available image: (128,3).
-pub fn available(service: u8, subtype: u8) -> bool
+pub(crate) fn available(service: u8, subtype: u8) -> bool
     ensures { λ r. ⌜ Tells available service subtype r ⌝ }
 {
     (service == 128) & (subtype == 3)
 }
 
 // Image line: (128,7).
-pub fn image_line(service: u8, subtype: u8) -> bool
+pub(crate) fn image_line(service: u8, subtype: u8) -> bool
     ensures { λ r. ⌜ Tells imageLine service subtype r ⌝ }
 {
     (service == 128) & (subtype == 7)

@@ -48,7 +48,7 @@ fn write(
     requires { ⌜ (length (now a) ≤ 4) × (length (now b) ≤ 4) ⌝ }
     ensures { λ r. ⌜ WroteSource wrong packet (together (now (a .entry)) (now (b .entry)) (now (c .entry)) (now (d .entry))) (now (out .entry)) r (now (out .exit)) ⌝ }
 {
-    if wrong | (235 < c.len()) | (235 < d.len()) {
+    if wrong | (Packet::LONGEST_SOURCE < c.len()) | (Packet::LONGEST_SOURCE < d.len()) {
         return Written::Refused(answer::FIELD_RANGE);
     }
     let n = a.len() + b.len() + c.len() + d.len();

@@ -1,6 +1,7 @@
 -- The worked cases, by computing.
 use mathlib.Core.Path.{refl}
-use Rattle.rules.specs.Channel.{standing, push, placeAfter, lengthHolds, enter, follow, lostSince, step}
+use Rattle.counts.specs.Lost.{lostSince}
+use Rattle.rules.specs.Channel.{standing, push, placeAfter, lengthHolds, enter, follow, step}
 use Rattle.rules.specs.Bounds.{heldWrong}
 use Rattle.rules.specs.BothSides.{BothSides}
 

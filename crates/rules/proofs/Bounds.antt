@@ -9,7 +9,8 @@ use lib.ListN.{length, take, drop, length-append, length-take, length-drop, take
 use lib.Dec.{ltb, leb, eqb}
 use borrow.Author.Tests.{le-ltb, le-leb, lt-leb, ltb-false, leb-true, leb-false, not-false}
 use Rattle.octets.proofs.Tests.{or-left, or-right, and-true-left, and-true-right}
-use Rattle.rules.specs.Channel.{Held, nothing, grown, Handed, given, Standing, unfinished, whole, wrong, standing, allowed, lengthIn, Work, outOfStep, holding, settle, push, feed, fits, enter, follow, lostSince, afterLoss, step}
+use Rattle.counts.specs.Lost.{lostSince}
+use Rattle.rules.specs.Channel.{Held, nothing, grown, Handed, given, Standing, unfinished, whole, wrong, standing, allowed, lengthIn, Work, outOfStep, holding, settle, push, feed, fits, enter, follow, afterLoss, step}
 use Rattle.rules.specs.Packets.{Good, AllGood, joined, bare}
 use Rattle.rules.specs.Bounds.{heldWrong, Sound, PassingSound, SoundPassing, FreshSound, StepBounded}
 use Rattle.rules.proofs.Standing.{Order, upTo, past, order, View, short, more, done, bad, view, not-whole, not-wrong, length-said, standing-short, standing-part, empty-unfinished, whole-good}

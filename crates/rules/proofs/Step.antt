@@ -5,7 +5,8 @@ use mathlib.Core.Bool.{Bool, true, false, _&&_, cond}
 use Prim.Native.Nat.{ℕ, zero, suc}
 use lib.ListN.{drop}
 use lib.Dec.{eqb}
-use Rattle.rules.specs.Channel.{Held, nothing, grown, Handed, given, Standing, unfinished, whole, wrong, standing, Work, holding, settle, push, feed, fits, enter, follow, lostSince, afterLoss, step}
+use Rattle.counts.specs.Lost.{lostSince}
+use Rattle.rules.specs.Channel.{Held, nothing, grown, Handed, given, Standing, unfinished, whole, wrong, standing, Work, holding, settle, push, feed, fits, enter, follow, afterLoss, step}
 use Rattle.rules.specs.Step.{StepFields}
 use Rattle.rules.specs.Bounds.{Under, StepArrivals}
 

@@ -4,7 +4,7 @@ use mathlib.Core.Path.{_≡_}
 use mathlib.Core.List.{List, [], _∷_, _++_}
 use lib.ListN.{take, drop, replicate}
 use mathlib.Core.Bool.{true, false}
-use Rattle.rules.specs.Channel.{Piece, Handed, Channel, fresh, step}
+use Rattle.rules.specs.Channel.{Piece, heldOf, Handed, given, Channel, fresh, step}
 use Rattle.rules.specs.Bounds.{heldWrong}
 
 -- A packet of n octets whose others are all x.
@@ -15,7 +15,7 @@ abbrev pub frame : ℕ → ℕ → List ℕ → Piece
 frame count pointer octets = record { count = count; pointer = pointer; octets = octets }
 
 abbrev pub out : ℕ → List ℕ → Handed
-out a p = record { arrival = a; packet = p }
+out a p = given a (heldOf p)
 
 -- What a channel answers, its next state aside.
 pub record Reply : Type 0 where

@@ -5,6 +5,7 @@ use mathlib.Core.List.{List, [], _∷_, _++_}
 use mathlib.Core.Bool.{Bool, true, false, not, _&&_, _||_}
 use lib.ListN.{length, take}
 use lib.Dec.{leb, ltb}
+use Rattle.rules.specs.Limits.{mostHeld, mostData, mostPackets, mostOctets}
 use Rattle.rules.specs.Channel.{Piece, Handed, allowed, lengthIn, standing, unfinished, Channel, fresh, Answer, step}
 use Rattle.rules.specs.Packets.{AllGood, joined, bare}
 
@@ -12,7 +13,7 @@ use Rattle.rules.specs.Packets.{AllGood, joined, bare}
 -- packet's length is outside 16 to 251 or not above the number held.
 unfoldable pub heldWrong : Bool → ℕ → List ℕ → Bool
 heldWrong inStep n octets =
-    ltb 250 n
+    ltb mostHeld n
     || (not inStep && ltb 0 n)
     || (leb 6 n && (not (allowed (lengthIn octets)) || leb (lengthIn octets) n))
 
@@ -35,13 +36,13 @@ FreshSound = Sound (fresh .inStep) (fresh .held .octets)
 -- own length, at most 16 of them and at most 501 octets.
 pub record Bounded (a : Answer) : Type 0 where
   pub sound : Sound (a .next .inStep) (a .next .held .octets)
-  pub held : length (a .next .held .octets) ≤ 250
+  pub held : length (a .next .held .octets) ≤ mostHeld
   pub good : AllGood (bare (a .packets))
-  pub packets : length (bare (a .packets)) ≤ 16
-  pub octets : length (joined (bare (a .packets))) ≤ 501
+  pub packets : length (bare (a .packets)) ≤ mostPackets
+  pub octets : length (joined (bare (a .packets))) ≤ mostOctets
 
 abbrev pub StepBounded : Type 0
-StepBounded = (a : ℕ) (c : Channel) (f : Piece) → Sound (c .inStep) (c .held .octets) → length (f .octets) ≤ 251 → Bounded (step a c f)
+StepBounded = (a : ℕ) (c : Channel) (f : Piece) → Sound (c .inStep) (c .held .octets) → length (f .octets) ≤ mostData → Bounded (step a c f)
 
 -- Every packet handed out carries the arrival number of the frame.
 abbrev pub Under : ℕ → List Handed → Type 0

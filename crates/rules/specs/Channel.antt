@@ -6,7 +6,9 @@ use Prim.Native.Nat.{ℕ, zero, suc, _+_, _-_}
 use lib.ListN.{length, drop}
 use lib.Dec.{leb, ltb, eqb}
 use Rattle.octets.specs.Numbers.{at, word}
-use Rattle.counts.specs.Gap.{gap}
+use Rattle.counts.specs.Lost.{lostSince}
+use Rattle.frame.specs.Limits.{rawData, noneStarts}
+use Rattle.packet.specs.Limits.{leastLength, greatestLength}
 
 -- What of a frame the rules read: the channel count, the pointer and the data.
 pub record Piece : Type 0 where
@@ -20,7 +22,7 @@ lengthIn p = word (at p 4) (at p 5) + 7
 
 -- 16 to 251 octets.
 abbrev pub allowed : ℕ → Bool
-allowed n = leb 16 n && leb n 251
+allowed n = leb leastLength n && leb n greatestLength
 
 -- What octets that begin at a packet's first octet amount to.
 pub data Standing : Type 0 where
@@ -35,18 +37,22 @@ standing h =
 pub record Held : Type 0 where
   pub octets : List ℕ
 
+abbrev pub heldOf : List ℕ → Held
+heldOf octets = record { octets = octets }
+
 abbrev pub nothing : Held
-nothing = record { octets = [] }
+nothing = heldOf []
 
 -- One octet more.
 abbrev pub grown : Held → ℕ → Held
-grown h x = record { octets = h .octets ++ x ∷ [] }
+grown h x = heldOf (h .octets ++ x ∷ [])
 
 -- A packet handed out, with the arrival number of the frame that held its last octet.
 pub record Handed : Type 0 where
   pub arrival : ℕ
   pub packet : List ℕ
 
+-- What is held, now whole, is handed out at the frame with arrival number a.
 abbrev pub given : ℕ → Held → Handed
 given a h = record { arrival = a; packet = h .octets }
 
@@ -77,7 +83,7 @@ feed a w (x ∷ xs) = feed a (push a w x) xs
 
 -- The pointer of a frame of n octets of data in which a header starts at `place`, if that is below n.
 abbrev pub pointerTo : ℕ → ℕ → ℕ
-pointerTo place n = cond (ltb place n) place 255
+pointerTo place n = cond (ltb place n) place noneStarts
 
 -- Rule 3. The place just after the held packet's last octet: 0 with nothing held, the data's end while its length is unknown.
 unfoldable pub placeAfter : List ℕ → List ℕ → ℕ
@@ -96,18 +102,13 @@ fits held pointer xs = lengthHolds held xs && eqb pointer (pointerTo (placeAfter
 
 -- Rule 4, and what rule 5 makes of it.
 unfoldable pub enter : ℕ → ℕ → List ℕ → Work
-enter a pointer xs = cond (eqb pointer 255) (outOfStep []) (feed a (holding nothing []) (drop pointer xs))
+enter a pointer xs = cond (eqb pointer noneStarts) (outOfStep []) (feed a (holding nothing []) (drop pointer xs))
 
 -- Rules 2 to 5, for the frame with arrival number a.
 unfoldable pub follow : ℕ → Bool → Held → ℕ → List ℕ → Work
 follow a inStep h pointer xs =
-    cond (eqb pointer 254) (record { inStep = inStep; held = h; packets = [] })
+    cond (eqb pointer rawData) (record { inStep = inStep; held = h; packets = [] })
     (cond (inStep && fits (h .octets) pointer xs) (feed a (holding h []) xs) (enter a pointer xs))
-
--- Lost, for channel and master: (count - last - 1) modulo 256; 0 at the first frame.
-unfoldable pub lostSince : Option ℕ → ℕ → ℕ
-lostSince none count = 0
-lostSince (some last) count = gap 256 count last
 
 -- A channel: its last count if it had a frame, in step or not, and what is held.
 pub record Channel : Type 0 where

@@ -1,3 +1,4 @@
+pub mod Limits
 pub mod Channel
 pub mod Packets
 pub mod Bounds

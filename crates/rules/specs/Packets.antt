@@ -4,12 +4,13 @@ use mathlib.Core.Path.{_≡_}
 use mathlib.Core.List.{List, [], _∷_, _++_, map}
 use lib.ListN.{length}
 use Rattle.octets.specs.Numbers.{at, word}
+use Rattle.packet.specs.Limits.{leastLength, greatestLength}
 use Rattle.rules.specs.Channel.{Handed}
 
 -- A packet by the rules: 16 to 251 octets, and its C, octets 4 and 5, is its own length less 7.
 pub record Good (p : List ℕ) : Type 0 where
-  pub least : 16 ≤ length p
-  pub greatest : length p ≤ 251
+  pub least : leastLength ≤ length p
+  pub greatest : length p ≤ greatestLength
   pub says : word (at p 4) (at p 5) ≡ length p - 7
 
 abbrev pub AllGood : List (List ℕ) → Type 0

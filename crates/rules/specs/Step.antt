@@ -2,7 +2,8 @@
 use Prim.Native.Nat.{ℕ}
 use mathlib.Core.Path.{_≡_}
 use mathlib.Core.Option.{some}
-use Rattle.rules.specs.Channel.{Piece, Channel, Work, lostSince, afterLoss, step}
+use Rattle.counts.specs.Lost.{lostSince}
+use Rattle.rules.specs.Channel.{Piece, Channel, Work, afterLoss, step}
 
 -- What rules 1 to 5 make of the frame f, offered under the arrival number a.
 abbrev pub worked : ℕ → Channel → Piece → Work

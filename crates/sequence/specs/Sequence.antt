@@ -1,6 +1,7 @@
 -- Document 01, 'Image and sequence': the sequence gap over a list of one number an APID, 0 for none yet, else last count + 1.
 use Prim.Native.Nat.{ℕ, _+_, _-_}
-use mathlib.Core.Bool.{_||_}
+use mathlib.Core.Path.{_≡_}
+use mathlib.Core.Bool.{false, _||_}
 use mathlib.Core.List.{List}
 use lib.ListN.{length, set}
 use lib.Dec.{ltb, eqb}
@@ -11,6 +12,10 @@ use Rattle.answer.specs.Refusals.{listShort, entry, countRange}
 use Rattle.counts.specs.Gap.{gap}
 use Rattle.sequence.specs.declared.Gap.{Gap}
 use Rattle.sequence.specs.declared.Gap.the-variants.{Missing, Refused}
+
+-- One entry an APID.
+abbrev pub entries : ℕ
+entries = 2048
 
 -- An answer tells how many are missing, or the refusal and 0.
 abbrev pub told : Gap → Told ℕ
@@ -36,7 +41,13 @@ refused n list = record { answer = refuse 0 n; list = list }
 -- Refusals 44, 46, 45, and the list stays; else the gap, and that APID's entry becomes count + 1.
 unfoldable pub outcome : ℕ → ℕ → List ℕ → Outcome
 outcome apid count list =
-    pick (ltb (length list) 2048) (refused listShort list)
+    pick (ltb (length list) entries) (refused listShort list)
     (pick (ltb 2047 apid || ltb 16383 count) (refused countRange list)
     (pick (ltb 16384 (at list apid)) (refused entry list)
     (record { answer = since (at list apid) count; list = set list apid (count + 1) })))
+
+-- A refusal tells 0 in every other field, and the list stays.
+abbrev pub RefusalLeavesAll : Type 0
+RefusalLeavesAll =
+    (apid count : ℕ) (before : List ℕ) (answer : Gap) (after : List ℕ) → observed answer after ≡ outcome apid count before
+    → told answer .accepted ≡ false → (told answer .fields ≡ 0) × (after ≡ before)

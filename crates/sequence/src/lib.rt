@@ -3,6 +3,9 @@ use counts::SequenceCount;
 ghost use mathlib.Core.Path.{_≡_};
 ghost use Rattle.sequence.specs.Sequence.{told, since, observed, outcome};
 
+// How many entries the list has, one an APID: the least length of what is lent for them.
+pub const LIST: usize = 2048;
+
 // What the source sequence count of one APID tells: how many packets are missing, or the refusal's number.
 pub enum Gap {
     Missing(u16),
@@ -23,7 +26,7 @@ fn since(count: SequenceCount, entry: u16) -> Gap
 pub fn missing(apid: u16, count: SequenceCount, list: &mut [u16]) -> Gap
     ensures { λ r. ⌜ observed r (now (list .exit)) ≡ outcome apid (count .0) (now (list .entry)) ⌝ }
 {
-    if list.len() < 2048 {
+    if list.len() < LIST {
         return Gap::Refused(answer::LIST_SHORT);
     }
     if (2047 < apid) | (16383 < count.0) {

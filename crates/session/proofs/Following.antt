@@ -8,16 +8,18 @@ use mathlib.Core.List.{List, [], _++_, append-nil}
 use lib.ListN.{length, take, drop, length-drop, drop-of-length-le}
 use lib.Seq.{take-all}
 use borrow.Author.Tests.{eq-eqb, ne-eqb}
-use Rattle.rules.specs.Channel.{nothing, Work, outOfStep, holding, feed, fits, enter, follow, afterLoss, answer, lostSince, step}
+use Rattle.counts.specs.Lost.{lastOf, lostSince}
+use Rattle.rules.specs.Channel.{heldOf, nothing, Work, outOfStep, holding, feed, fits, enter, follow, afterLoss, step}
 use Rattle.rules.specs.Bounds.{Sound}
 use Rattle.rules.specs.Packets.{bare}
 use Rattle.rules.specs.Cutting.{Cut}
 use Rattle.rules.proofs.Standing.{empty-unfinished}
 use Rattle.rules.proofs.Bounds.{sound-standing, sound-held, passing-sound, step-bounded}
 use Rattle.rules.proofs.Cutting.{cuts-on}
-use Rattle.session.specs.Channel.{lastOf, heldOf, view, channelOf, stored, channelUnsound}
+use Rattle.session.specs.Channel.{view, channelOf, stored, channelUnsound}
+use Rattle.session.specs.Lent.{Lent}
 use Rattle.session.specs.Asked.{Begun, Taken, Followable}
-use Rattle.session.specs.Promised.{inStepIf, Follows}
+use Rattle.session.specs.Promised.{inStepIf, Follows, Heeds}
 use Rattle.session.specs.declared.Channel.{Channel}
 use Rattle.session.specs.declared.channels.Followed.{Followed}
 use Rattle.session.proofs.Keeping.{to-end}
@@ -53,21 +55,23 @@ carries-all c zero k b u h l ek eb =
 
 -- as the step of a channel has it
 pub steps : (c : Channel) (lost k : ℕ) (inStep : Bool) → Carries c lost k inStep → (a count pointer : ℕ) (xs : List ℕ) (r : Followed)
-    (out list out′ list′ : List ℕ) → lost ≡ lostSince (lastOf (c .heard) (c .last .0)) count
-    → Follows (answer count lost (follow a inStep (heldOf (take k (c .held))) pointer xs)) r out list out′ list′
-    → Follows (step a (view c) (record { count = count; pointer = pointer; octets = xs })) r out list out′ list′
+    (l l′ : Lent) → lost ≡ lostSince (lastOf (c .heard) (c .last .0)) count
+    → Follows count (follow a inStep (heldOf (take k (c .held))) pointer xs) r l l′
+    → Heeds (step a (view c) (record { count = count; pointer = pointer; octets = xs })) (record { channel = r .channel; lost = lost; packets = r .packets }) l l′
 unfolding step view
-steps c lost k inStep w a count pointer xs r out list out′ list′ e h =
-    subst (λ (n : ℕ). Follows (answer count n (afterLoss a n (view c .inStep) (view c .held) pointer xs)) r out list out′ list′) e
-    (subst (λ (x : Work). Follows (answer count lost x) r out list out′ list′) (sym (w .work a pointer xs)) h)
+steps c lost k inStep w a count pointer xs r l l′ e h =
+    let work : follow a inStep (heldOf (take k (c .held))) pointer xs ≡ afterLoss a (lostSince (view c .last) count) (view c .inStep) (view c .held) pointer xs =
+    sym (w .work a pointer xs) ∙ ap (λ (n : ℕ). afterLoss a n (view c .inStep) (view c .held) pointer xs) e in
+    let g = subst (λ (x : Work). Follows count x r l l′) work h in
+    record { channel = g .channel; lost = e; packets = g .packets; leaves = g .leaves }
 
 -- ---- rules 2 to 4
 
 -- rule 5 is given the first k of the octets held, and the data from at on; out of step if no packet goes on or starts
-pub record Parts (inStep : Bool) (held : List ℕ) (pointer : ℕ) (xs out list : List ℕ) (k at : ℕ) (on : Bool) : Type 0 where
+pub record Parts (inStep : Bool) (held : List ℕ) (pointer : ℕ) (xs : List ℕ) (l : Lent) (k at : ℕ) (on : Bool) : Type 0 where
   pub front : k ≤ length held
   pub back : at ≤ length xs
-  pub taken : Taken (take k held) (take (length xs - at) (drop at xs)) out list
+  pub taken : Taken (take k held) (take (length xs - at) (drop at xs)) l
   pub work : (a : ℕ)
       → follow a inStep (heldOf held) pointer xs
       ≡ inStepIf on (feed a (holding (heldOf (take k held)) []) (take (length xs - at) (drop at xs)))
@@ -94,27 +98,25 @@ module _ (inStep : Bool) (held : List ℕ) (pointer : ℕ) (xs : List ℕ) where
     unfolding follow enter
     is-entered n e p = simp (ne-eqb _ _ n, e, ne-eqb _ _ p)
 
-    module _ (count lost : ℕ) (out list out′ list′ : List ℕ) where
+    module _ (count : ℕ) (l : Lent) where
       pub follows-raw : (x : Channel) → pointer ≡ 254 → x ≡ stored (channelOf count inStep (heldOf (held ++ [])))
-          → Follows (answer count lost followed) (record { channel = x; lost = lost; packets = 0 }) out list out list
+          → Follows count followed (record { channel = x; packets = 0 }) l l
       follows-raw x e h =
-          subst (λ (w : Work). Follows (answer count lost w) (record { channel = x; lost = lost; packets = 0 }) out list out list) (sym (is-raw e))
+          subst (λ (w : Work). Follows count w (record { channel = x; packets = 0 }) l l) (sym (is-raw e))
           (record {
-            channel = h ∙ ap (λ (l : List ℕ). stored (channelOf count inStep (heldOf l))) (append-nil held);
-            lost = refl;
+            channel = h ∙ ap (λ (o : List ℕ). stored (channelOf count inStep (heldOf o))) (append-nil held);
             packets = refl;
-            octets = refl;
-            lengths = refl;
+            leaves = refl;
           })
 
-      pub follows-taken : (k at : ℕ) (on : Bool) (r : Followed) → Parts inStep held pointer xs out list k at on
-          → Follows (answer count lost (inStepIf on (feed a (holding (heldOf (take k held)) []) (take (length xs - at) (drop at xs))))) r out list out′ list′
-          → Follows (answer count lost followed) r out list out′ list′
-      follows-taken k at on r p h = subst (λ (w : Work). Follows (answer count lost w) r out list out′ list′) (sym (p .work a)) h
+      pub follows-taken : (l′ : Lent) (k at : ℕ) (on : Bool) (r : Followed) → Parts inStep held pointer xs l k at on
+          → Follows count (inStepIf on (feed a (holding (heldOf (take k held)) []) (take (length xs - at) (drop at xs)))) r l l′
+          → Follows count followed r l l′
+      follows-taken l′ k at on r p h = subst (λ (w : Work). Follows count w r l l′) (sym (p .work a)) h
 
   -- ---- what the calls ask
 
-  module _ (out list : List ℕ) (f : Followable inStep held pointer xs out list) where
+  module _ (l : Lent) (f : Followable inStep held pointer xs l) where
     pub to-fit : Begun held xs
     to-fit = record {
       unfinished = sound-standing inStep held (f .sound);
@@ -129,19 +131,18 @@ module _ (inStep : Bool) (held : List ℕ) (pointer : ℕ) (xs : List ℕ) where
         step-bounded 0 (record { last = none; inStep = inStep; held = heldOf held }) (record { count = 0; pointer = pointer; octets = xs })
         (f .sound) (f .heard .few) .packets
 
-    to-take : (on : Bool) (h d : List ℕ) → Begun h d → followed 0 ≡ inStepIf on (feed 0 (holding (heldOf h) []) d) → Taken h d out list
+    to-take : (on : Bool) (h d : List ℕ) → Begun h d → followed 0 ≡ inStepIf on (feed 0 (holding (heldOf h) []) d) → Taken h d l
     to-take on h d b e = record {
       begun = b;
-      most = subst (λ (l : List (List ℕ)). length l ≤ 16)
+      most = subst (λ (ps : List (List ℕ)). length ps ≤ 16)
           (ap (λ (w : Work). bare (w .packets)) e ∙ ap (λ (x : Cut). x .packets) (cuts-on 0 (heldOf h) [] d (b .unfinished)))
           most;
       room = f .heard .room;
-      entries = f .heard .entries;
     }
 
     module _ (k at : ℕ) (on : Bool) (n : pointer ≡ 254 → ⊥) where
       abbrev Given : Type 0
-      Given = Parts inStep held pointer xs out list k at on
+      Given = Parts inStep held pointer xs l k at on
 
       parts : (h d : List ℕ) → take k held ≡ h → drop at xs ≡ d → k ≤ length held → at ≤ length xs → Begun h d
           → ((a : ℕ) → followed a ≡ inStepIf on (feed a (holding (heldOf h) []) d)) → Given

@@ -10,7 +10,8 @@ use lib.Seq.{length-take-le, take-all}
 use Rattle.octets.specs.Parts.{put, written}
 use Rattle.octets.proofs.Placing.{put-first, after}
 use Rattle.counts.specs.declared.ChannelCount.{ChannelCount}
-use Rattle.session.specs.Channel.{heldOf, channelOf, stored}
+use Rattle.rules.specs.Channel.{heldOf}
+use Rattle.session.specs.Channel.{channelOf, stored}
 use Rattle.session.specs.Asked.{Front, Left}
 use Rattle.session.specs.declared.Channel.{Channel}
 use Rattle.session.proofs.Joined.{take-past, drop-past}

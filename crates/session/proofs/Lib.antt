@@ -1,8 +1,11 @@
+pub mod Admitting
+pub mod Few
 pub mod Fitting
 pub mod Following
 pub mod Going
 pub mod Joined
 pub mod Keeping
+pub mod Lending
 pub mod Soundness
 pub mod Staying
 pub mod Stepping

@@ -1,35 +1,33 @@
--- No session that opening and steps give gets refusal 4: its channels are kept as `stored` keeps sound ones.
+-- A session that refusal 4 does not hold of is followed by such sessions: no session that opening and steps give gets it.
 use Prim.Native.Nat.{ℕ, zero, suc, _-_, _≤_}
 use native.Mathlib.Omega.{arith}
-use mathlib.Core.Path.{_≡_, refl, sym, ap, _∙_, subst}
-use mathlib.Core.Bool.{Bool, true, false, true≢false, false≢true, _||_}
+use mathlib.Core.Path.{_≡_, refl, sym, _∙_}
+use mathlib.Core.Bool.{true, false}
 use mathlib.Core.Option.{Option, none, some}
 use mathlib.Core.List.{List, [], _∷_}
 use lib.ListN.{length, getD, set, replicate, length-set}
 use lib.Seq.{take-append-seam}
-use lib.Dec.{ltb, eqb}
+use lib.Dec.{ltb}
 use borrow.Author.Tests.{le-ltb, ltb-false}
-use Rattle.octets.specs.Pick.{pick}
-use Rattle.answer.specs.Told.{Told, accept, refuse}
+use Rattle.octets.proofs.Choices.{picks}
+use Rattle.octets.proofs.Tests.{or-left, or-right}
 use Rattle.answer.specs.Refusals as no
-use Rattle.frame.specs.Frame.{noFrame, lengthWrong, checkWrong, headWrong, versionWrong, statusWrong, pointerWrong, statusOf, dataLength, dataOf, readWhole, readFrame}
+use Rattle.counts.specs.Lost.{lastOf}
+use Rattle.frame.specs.Frame.{dataOf, readFrame}
 use Rattle.frame.specs.declared.Frame.{Frame}
 use Rattle.frame.proofs.Accepts.{accepts}
-use Rattle.octets.specs.Numbers.{at}
+use Rattle.frame.proofs.Tells.{read-tells}
 use Rattle.rules.specs.Channel as rules
-use Rattle.rules.specs.Bounds.{Sound}
-use Rattle.rules.proofs.Bounds.{fresh-sound, sound-passing, step-bounded}
-use Rattle.session.specs.Channel.{lastOf, heardOf, countOf, view, stored, fresh, channelUnsound, anyUnsound, unsound}
+use Rattle.rules.specs.Bounds.{Sound, Bounded}
+use Rattle.rules.proofs.Bounds.{fresh-sound, passing-sound, sound-passing, step-bounded}
+use Rattle.session.specs.Channel.{heardOf, countOf, view, stored, fresh, channelUnsound, anyUnsound, unsound}
+use Rattle.session.specs.Lent.{Lent}
 use Rattle.session.specs.Open.{Opening, opened, opening}
-use Rattle.session.specs.Step.{Outcome, refused, counted, channelAt, pieceOf, ruled, accepted, heeded, outcome}
-use Rattle.session.specs.Statements.{Offer, after, StaysSound}
+use Rattle.session.specs.Step.{Outcome, refused, counted, channelAt, pieceOf, ruled, accepted, heeded, outcome, turnedAway}
+use Rattle.session.specs.Statements.{Stretch, found, unread, offered, Offer, after, StaysSound}
 use Rattle.session.specs.declared.Channel.{Channel}
 use Rattle.session.specs.declared.Session.{Session}
-
-picks : {A : Type 0} (P : A → Type 0) (b : Bool) (x y : A) → (b ≡ true → P x) → (b ≡ false → P y) → P (pick b x y)
-unfolding pick
-picks P true x y p q = p refl
-picks P false x y p q = q refl
+use Rattle.session.proofs.Admitting.{admitted-picks, not-four}
 
 -- ---- a channel that is stored is seen again as it was
 
@@ -41,129 +39,98 @@ pub view-stored : (c : rules.Channel) → view (stored c) ≡ c
 unfolding view stored
 view-stored c = simp (last-seen, take-append-seam)
 
--- ---- channels that steps give
-
-pub record Kept (c : Channel) : Type 0 where
-  pub channel : rules.Channel
-  pub sound : Sound (channel .inStep) (channel .held .octets)
-  pub same : c ≡ stored channel
-
-pub fresh-kept : Kept fresh
-fresh-kept = record { channel = rules.fresh; sound = fresh-sound; same = refl }
-
-pub kept-view : (c : Channel) → Kept c → Sound (view c .inStep) (view c .held .octets)
-kept-view c k =
-    subst (λ (x : rules.Channel). Sound (x .inStep) (x .held .octets)) (sym (ap view (k .same) ∙ view-stored (k .channel))) (k .sound)
-
-pub kept-step : (a : ℕ) (c : Channel) (f : rules.Piece) → Kept c → length (f .octets) ≤ 251 → Kept (stored (rules.step a (view c) f .next))
-kept-step a c f k l = record { channel = rules.step a (view c) f .next; sound = step-bounded a (view c) f (kept-view c k) l .sound; same = refl }
+-- ---- channels that refusal 4 does not hold of
 
 stored-sound : (c : rules.Channel) → Sound (c .inStep) (c .held .octets) → channelUnsound (stored c) ≡ false
 unfolding stored
 stored-sound c s = sound-passing (c .inStep) (c .held .octets) (replicate (250 - length (c .held .octets)) 0) s
 
-kept-sound : (c : Channel) → Kept c → channelUnsound c ≡ false
-kept-sound c k = ap channelUnsound (k .same) ∙ stored-sound (k .channel) (k .sound)
+pub fresh-passes : channelUnsound fresh ≡ false
+fresh-passes = stored-sound rules.fresh fresh-sound
 
--- ---- sessions that opening and steps give
+channel-passes : (cs : List Channel) (i : ℕ) → anyUnsound cs ≡ false → channelUnsound (getD cs i fresh) ≡ false
+channel-passes [] i e = fresh-passes
+channel-passes (c ∷ cs) zero e = or-left (channelUnsound c) (anyUnsound cs) e
+channel-passes (c ∷ cs) (suc i) e = channel-passes cs i (or-right (channelUnsound c) (anyUnsound cs) e)
 
-abbrev pub AllKept : List Channel → Type 0
-AllKept [] = Unit {0}
-AllKept (c ∷ cs) = Kept c × AllKept cs
-
-pub record Reached (s : Session) : Type 0 where
-  pub time : s .t ≤ 8
-  pub eight : length (s .channels) ≡ 8
-  pub channels : AllKept (s .channels)
-
-kept-get : (cs : List Channel) (i : ℕ) → AllKept cs → Kept (getD cs i fresh)
-kept-get [] i k = fresh-kept
-kept-get (c ∷ cs) zero k = k .0
-kept-get (c ∷ cs) (suc i) k = kept-get cs i (k .1)
-
-pub reached-at : (s : Session) (i : ℕ) → Reached s → Kept (channelAt s i)
-reached-at s i r = kept-get (s .channels) i (r .channels)
-
-kept-set : (cs : List Channel) (i : ℕ) (c : Channel) → AllKept cs → Kept c → AllKept (set cs i c)
-kept-set [] i c k h = tt
-kept-set (x ∷ cs) zero c k h = (h, k .1)
-kept-set (x ∷ cs) (suc i) c k h = (k .0, kept-set cs i c (k .1) h)
-
-none-unsound : (cs : List Channel) → AllKept cs → anyUnsound cs ≡ false
-none-unsound [] k = refl
-none-unsound (c ∷ cs) k = rw (kept-sound c (k .0), none-unsound cs (k .1))
-
-pub reached-sound : (s : Session) → Reached s → unsound s ≡ false
+channels-pass : (s : Session) → unsound s ≡ false → anyUnsound (s .channels) ≡ false
 unfolding unsound
-reached-sound s r = simp (le-ltb _ _ (r .time), none-unsound (s .channels) (r .channels))
+channels-pass s u = or-right (ltb 8 (s .t)) (anyUnsound (s .channels)) u
 
-opened-reached : (t last : ℕ) → t ≤ 8 → Reached (opened t last)
-opened-reached t last l =
-    let k = fresh-kept in
-    record { time = l; eight = refl; channels = (k, (k, (k, (k, (k, (k, (k, (k, tt)))))))) }
+channel-sound : (s : Session) (i : ℕ) → unsound s ≡ false → Sound (view (channelAt s i) .inStep) (view (channelAt s i) .held .octets)
+unfolding view
+channel-sound s i u =
+    passing-sound (channelAt s i .instep) (channelAt s i .length) (channelAt s i .held) (channel-passes (s .channels) i (channels-pass s u))
 
-pub opening-reached : (t last : ℕ) → Reached (opening t last .session)
+-- what the rules keep to, whatever the frame
+pub ruled-bounded : (s : Session) (f : Frame) (d : List ℕ) → unsound s ≡ false → length d ≤ 251 → Bounded (ruled s f d)
+unfolding ruled
+ruled-bounded s f d u l = step-bounded (s .arrival) (view (channelAt s (f .channel))) (pieceOf f d) (channel-sound s (f .channel) u) l
+
+any-set : (cs : List Channel) (i : ℕ) (c : Channel) → anyUnsound cs ≡ false → channelUnsound c ≡ false → anyUnsound (set cs i c) ≡ false
+any-set [] i c e h = refl
+any-set (x ∷ cs) zero c e h = rw (h, or-right (channelUnsound x) (anyUnsound cs) e)
+any-set (x ∷ cs) (suc i) c e h =
+    rw (or-left (channelUnsound x) (anyUnsound cs) e, any-set cs i c (or-right (channelUnsound x) (anyUnsound cs) e) h)
+
+-- ---- an opening
+
+pub opened-sound : (t last : ℕ) → t ≤ 8 → unsound (opened t last) ≡ false
+unfolding unsound
+opened-sound t last l = simp (le-ltb _ _ l, fresh-passes)
+
+opening-sound : (t last : ℕ) → unsound (opening t last .session) ≡ false
 unfolding opening
-opening-reached t last =
-    picks (λ (o : Opening). Reached (o .session)) (ltb 8 t) _ _ (λ e. opened-reached 0 0 (omega arith)) (λ e. opened-reached t last (ltb-false _ _ e))
-
--- ---- what the frame's reader tells
-
-record Right (r : Told Frame) : Type 0 where
-  plain : r .accepted ≡ true → r ≡ accept (r .fields)
-  other : r .refusal ≡ no.session → ⊥
-
-refuses : (n : ℕ) → (n ≡ no.session → ⊥) → Right (refuse noFrame n)
-refuses n h = record { plain = λ e. absurd (false≢true e); other = h }
-
-read-right : (t : ℕ) (s : List ℕ) → Right (readFrame t s)
-unfolding readFrame readWhole
-read-right t s =
-    picks Right (ltb 8 t) _ _ (λ e. refuses no.timeLength (λ h. omega arith))
-    (λ e. picks Right (lengthWrong t (length s)) _ _ (λ e. refuses no.frameLength (λ h. omega arith))
-    (λ e. picks Right (checkWrong s) _ _ (λ e. refuses no.frameCheck (λ h. omega arith))
-    (λ e. picks Right (headWrong s) _ _ (λ e. refuses no.frameAddress (λ h. omega arith))
-    (λ e. picks Right (versionWrong (at s 16)) _ _ (λ e. refuses no.frameVersion (λ h. omega arith))
-    (λ e. picks Right (statusWrong t (statusOf t s)) _ _ (λ e. refuses no.frameStatus (λ h. omega arith))
-    (λ e. picks Right (pointerWrong (at s 19) (dataLength t s)) _ _ (λ e. refuses no.framePointer (λ h. omega arith))
-    (λ e. record { plain = λ h. refl; other = λ h. omega arith })))))))
-
-few-read : (t : ℕ) (s : List ℕ) (f : Frame) → readFrame t s ≡ accept f → length (dataOf f s) ≤ 251
-few-read t s f e = let w = accepts t s f e in omega (arith, w .«data», w .few)
+opening-sound t last =
+    picks (λ (o : Opening). unsound (o .session) ≡ false) (ltb 8 t) _ _ (λ e. opened-sound 0 0 (omega arith)) (λ e. opened-sound t last (ltb-false _ _ e))
 
 -- ---- a step
 
-counted-reached : (s : Session) → Reached s → Reached (counted s)
-counted-reached s r = record { time = r .time; eight = r .eight; channels = r .channels }
+-- an outcome of s that refusal 4 does not hold of, with as many channels
+pub record Stays (s : Session) (o : Outcome) : Type 0 where
+  pub sound : unsound (o .session) ≡ false
+  pub channels : length (o .session .channels) ≡ length (s .channels)
 
-accepted-reached : (s : Session) (f : Frame) (xs : List ℕ) → Reached s → length xs ≤ 251 → Reached (accepted s f xs .session)
-unfolding accepted ruled
-accepted-reached s f xs r l = record {
-  time = r .time;
-  eight = length-set (s .channels) (f .channel) _ ∙ r .eight;
-  channels = kept-set (s .channels) (f .channel) _ (r .channels)
-      (kept-step (s .arrival) (channelAt s (f .channel)) (pieceOf f xs) (reached-at s (f .channel) r) l);
-}
+pub counted-sound : (s : Session) → unsound s ≡ false → unsound (counted s) ≡ false
+unfolding unsound
+counted-sound s u = u
 
-abbrev Next : Outcome → Type 0
-Next o = Reached (o .session)
+refused-stays : (s : Session) (n : ℕ) → unsound s ≡ false → Stays s (refused s n)
+refused-stays s n u = record { sound = u; channels = refl }
 
-heeded-reached : (s : Session) (frame : List ℕ) → Reached s → Reached (heeded s frame (readFrame (s .t) frame) .session)
-heeded-reached s frame r =
-    picks Next (readFrame (s .t) frame .accepted) _ _
-    (λ a. accepted-reached s (readFrame (s .t) frame .fields) _ r (few-read (s .t) frame _ (read-right (s .t) frame .plain a)))
-    (λ a. r)
+counted-stays : (s : Session) (o : Outcome) → Stays (counted s) o → Stays s o
+counted-stays s o w = record { sound = w .sound; channels = w .channels }
 
-pub step-reached : (s : Session) (o : Offer) → Reached s → Reached (outcome s (o .frame) (o .octets) (o .lengths) .session)
+accepted-stays : (s : Session) (f : Frame) (d : List ℕ) → unsound s ≡ false → length d ≤ 251 → Stays s (accepted s f d)
+unfolding unsound accepted
+accepted-stays s f d u l =
+    let next = any-set (s .channels) (f .channel) (stored (ruled s f d .next)) (channels-pass s u) (stored-sound (ruled s f d .next) (ruled-bounded s f d u l .sound)) in
+    record { sound = rw (or-left (ltb 8 (s .t)) (anyUnsound (s .channels)) u, next); channels = length-set (s .channels) (f .channel) _ }
+
+-- a frame that the reader accepts has at most 251 octets of data
+pub few-read : (t : ℕ) (s : List ℕ) → readFrame t s .accepted ≡ true → length (dataOf (readFrame t s .fields) s) ≤ 251
+few-read t s e = let w = accepts t s _ (read-tells t s .plain e) in omega (arith, w .«data», w .few)
+
+heeded-stays : (s : Session) (frame : List ℕ) → unsound s ≡ false → Stays s (heeded s frame (readFrame (s .t) frame))
+heeded-stays s frame u =
+    picks (Stays s) (readFrame (s .t) frame .accepted) _ _
+    (λ a. accepted-stays s (readFrame (s .t) frame .fields) _ u (few-read (s .t) frame a))
+    (λ a. refused-stays s _ u)
+
+pub step-stays : (s : Session) (frame : List ℕ) (l : Lent) → unsound s ≡ false → Stays s (outcome s frame l)
 unfolding outcome
-step-reached s o r =
-    picks Next (ltb (o .octets) 501 || ltb (o .lengths) 16) _ _ (λ e. r)
-    (λ e. picks Next (unsound s) _ _ (λ e. r)
-    (λ e. picks Next (eqb (s .arrival) 4294967295) _ _ (λ e. r) (λ e. heeded-reached (counted s) (o .frame) (counted-reached s r))))
+step-stays s frame l u =
+    admitted-picks (Stays s) s l _ (λ a. counted-stays s _ (heeded-stays (counted s) frame (counted-sound s u))) (λ n e. refused-stays s n u)
 
-pub after-reached : (s : Session) (os : List Offer) → Reached s → Reached (after s os)
-after-reached s [] r = r
-after-reached s (o ∷ os) r = after-reached _ os (step-reached s o r)
+pub offer-stays : (s : Session) (x : Stretch) (l : Lent) → unsound s ≡ false → Stays s (offered s x l)
+unfolding turnedAway
+offer-stays s (found x) l u = step-stays s x l u
+offer-stays s (unread n) l u =
+    admitted-picks (Stays s) s l _ (λ a. counted-stays s _ (refused-stays (counted s) n (counted-sound s u))) (λ m e. refused-stays s m u)
+
+after-sound : (s : Session) (os : List Offer) → unsound s ≡ false → unsound (after s os) ≡ false
+after-sound s [] u = u
+after-sound s (o ∷ os) u = after-sound _ os (offer-stays s (o .stretch) (o .lent) u .sound)
 
 -- ---- the answer
 
@@ -173,16 +140,14 @@ Other o = o .answer .refusal ≡ no.session → ⊥
 heeded-other : (s : Session) (frame : List ℕ) → Other (heeded s frame (readFrame (s .t) frame))
 unfolding accepted
 heeded-other s frame =
-    picks Other (readFrame (s .t) frame .accepted) (accepted s _ _) (refused s _) (λ a h. omega arith) (λ a. read-right (s .t) frame .other)
+    picks Other (readFrame (s .t) frame .accepted) (accepted s _ _) (refused s _) (λ a h. omega arith) (λ a. read-tells (s .t) frame .other)
 
-sound-answers : (s : Session) (o : Offer) → unsound s ≡ false → Other (outcome s (o .frame) (o .octets) (o .lengths))
+sound-answers : (s : Session) (frame : List ℕ) (l : Lent) → unsound s ≡ false → Other (outcome s frame l)
 unfolding outcome
-sound-answers s o u =
-    picks Other (ltb (o .octets) 501 || ltb (o .lengths) 16) (refused s no.room) _ (λ e h. omega arith)
-    (λ e. picks Other (unsound s) (refused s no.session) _ (λ e h. absurd (true≢false (sym e ∙ u)))
-    (λ e. picks Other (eqb (s .arrival) 4294967295) (refused s no.arrivals) _ (λ e h. omega arith) (λ e. heeded-other (counted s) (o .frame))))
+sound-answers s frame l u =
+    admitted-picks Other s l _ (λ a. heeded-other (counted s) frame) (λ n e h. not-four s l u (sym e ∙ h))
 
 pub stays-sound : StaysSound
-stays-sound t last steps o =
-    let r = after-reached (opening t last .session) steps (opening-reached t last) in
-    sound-answers (after (opening t last .session) steps) o (reached-sound _ r)
+stays-sound t last offers =
+    let u = after-sound _ offers (opening-sound t last) in
+    record { bars = λ l. not-four _ l u; answers = λ x l. sound-answers _ x l u }

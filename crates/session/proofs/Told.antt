@@ -1,10 +1,14 @@
--- No two answers are told alike, and what the contracts leave.
+-- No two answers are told alike, what refusals tell, and what the contracts leave.
 use Prim.Native.Nat.{ℕ}
 use mathlib.Core.Path.{_≡_, refl, sym, ap, _∙_}
-use mathlib.Core.List.{List}
+use mathlib.Core.Bool.{true≢false}
+use borrow.Author.Tests.{lt-ltb}
+use Rattle.octets.specs.Pick.{pick}
 use Rattle.answer.proofs.Told.{same-fields, same-refusal, accept-or-refuse, refuse-or-accept}
 use Rattle.session.specs.Open as opening
+use Rattle.session.specs.Lent.{Lent}
 use Rattle.session.specs.Step as stepping
+use Rattle.session.specs.Statements.{RefusalsTell0, RefusedFresh}
 use Rattle.session.specs.declared.Session.{Session}
 use Rattle.session.specs.declared.Opened.{Opened}
 use Rattle.session.specs.declared.OpenAnswer.{OpenAnswer}
@@ -19,15 +23,19 @@ open-told-apart (opens.Refused n) (opens.Refused m) h = ap opens.Refused (same-r
 open-told-apart opens.Accepted (opens.Refused m) h = accept-or-refuse h
 open-told-apart (opens.Refused n) opens.Accepted h = refuse-or-accept h
 
-again : stepping.Accepted → StepAnswer
-again a = steps.Accepted (a .arrival) (a .channel) (a .lost) (a .master) (a .packets)
-
 pub step-told-apart : (x y : StepAnswer) → stepping.told x ≡ stepping.told y → x ≡ y
-unfolding again
-step-told-apart (steps.Accepted a b c d e) (steps.Accepted a′ b′ c′ d′ e′) h = ap again (same-fields h)
+step-told-apart (steps.Accepted a) (steps.Accepted b) h = ap steps.Accepted (same-fields h)
 step-told-apart (steps.Refused n) (steps.Refused m) h = ap steps.Refused (same-refusal h)
-step-told-apart (steps.Accepted a b c d e) (steps.Refused m) h = accept-or-refuse h
-step-told-apart (steps.Refused n) (steps.Accepted a b c d e) h = refuse-or-accept h
+step-told-apart (steps.Accepted a) (steps.Refused m) h = accept-or-refuse h
+step-told-apart (steps.Refused n) (steps.Accepted a) h = refuse-or-accept h
+
+pub refusals-tell-0 : RefusalsTell0
+refusals-tell-0 (steps.Accepted a) h = absurd (true≢false h)
+refusals-tell-0 (steps.Refused n) h = record { arrival = refl; channel = refl; lost = refl; master = refl; packets = refl }
+
+pub refused-fresh : RefusedFresh
+unfolding opening.opening pick
+refused-fresh t last h = rw (lt-ltb 8 t h)
 
 both-opened : {r q : Opened} → r .session ≡ q .session → r .answer ≡ q .answer → r ≡ q
 both-opened {r} {q} s n =
@@ -46,11 +54,10 @@ one-opened {r = r} {q = q} a b =
     let n : r .answer ≡ q .answer = open-told-apart (r .answer) (q .answer) (a .answers ∙ sym (b .answers)) in
     both-opened s n
 
--- the session, the answer and both lent lists of a step
-pub one-stepped : {o : stepping.Outcome} {r q : Stepped} {out list out₁ out₂ list₁ list₂ : List ℕ}
-    → stepping.Gives o r out list out₁ list₁ → stepping.Gives o q out list out₂ list₂
-    → _≡_ {A = Stepped × List ℕ × List ℕ} (r, out₁, list₁) (q, out₂, list₂)
+-- the session, the answer and what was lent of a step
+pub one-stepped : {o : stepping.Outcome} {r q : Stepped} {l l₁ l₂ : Lent}
+    → stepping.Gives o r l l₁ → stepping.Gives o q l l₂ → _≡_ {A = Stepped × Lent} (r, l₁) (q, l₂)
 one-stepped {r = r} {q = q} a b =
     let s : r .session ≡ q .session = a .session ∙ sym (b .session) in
     let n : r .answer ≡ q .answer = step-told-apart (r .answer) (q .answer) (a .answers ∙ sym (b .answers)) in
-    simp (both-stepped s n, a .octets, b .octets, a .lengths, b .lengths)
+    simp (both-stepped s n, a .leaves, b .leaves)

@@ -4,17 +4,20 @@ use mathlib.Core.Path.{_≡_}
 use mathlib.Core.List.{List, _++_}
 use mathlib.Core.Bool.{Bool, false}
 use lib.ListN.{length, drop}
+use Rattle.frame.specs.Limits.{rawData, noneStarts}
+use Rattle.rules.specs.Limits.{mostHeld, mostData, mostPackets}
 use Rattle.rules.specs.Channel.{standing, unfinished}
 use Rattle.rules.specs.Bounds.{Sound}
 use Rattle.rules.specs.Cutting.{cutOf}
 use Rattle.session.specs.Channel.{channelUnsound}
+use Rattle.session.specs.Lent.{Lent, Enough}
 use Rattle.session.specs.declared.Channel.{Channel}
 
 -- What is held begins a packet, and the data xs is no more than a frame has.
 pub record Begun (held xs : List ℕ) : Type 0 where
   pub unfinished : standing held ≡ unfinished
-  pub short : length held ≤ 250
-  pub few : length xs ≤ 251
+  pub short : length held ≤ mostHeld
+  pub few : length xs ≤ mostData
 
 -- A list with an entry for each packet.
 pub record Counted (held xs list : List ℕ) : Type 0 where
@@ -31,31 +34,29 @@ pub record Front (held xs : List ℕ) (n : ℕ) (out : List ℕ) : Type 0 where
 pub record Left (held xs : List ℕ) (n : ℕ) : Type 0 where
   pub within : n ≤ length held + length xs
   pub past : n < length held → n ≡ 0
-  pub short : length (drop n (held ++ xs)) ≤ 250
+  pub short : length (drop n (held ++ xs)) ≤ mostHeld
 
 -- Room for all that is handed out.
-pub record Taken (held xs out list : List ℕ) : Type 0 where
+pub record Taken (held xs : List ℕ) (l : Lent) : Type 0 where
   pub begun : Begun held xs
-  pub most : length (cutOf (held ++ xs) .packets) ≤ 16
-  pub room : 501 ≤ length out
-  pub entries : 16 ≤ length list
+  pub most : length (cutOf (held ++ xs) .packets) ≤ mostPackets
+  pub room : Enough l
 
 -- A pointer of a frame with n octets of data, as the frame's reader lets it pass.
 abbrev pub Points : ℕ → ℕ → Type 0
-Points pointer n = (pointer ≡ 254 → ⊥) → (pointer ≡ 255 → ⊥) → pointer < n
+Points pointer n = (pointer ≡ rawData → ⊥) → (pointer ≡ noneStarts → ⊥) → pointer < n
 
 -- A frame's data and pointer, and what is lent.
-pub record Heard (pointer : ℕ) (xs out list : List ℕ) : Type 0 where
-  pub few : length xs ≤ 251
+pub record Heard (pointer : ℕ) (xs : List ℕ) (l : Lent) : Type 0 where
+  pub few : length xs ≤ mostData
   pub points : Points pointer (length xs)
-  pub room : 501 ≤ length out
-  pub entries : 16 ≤ length list
+  pub room : Enough l
 
 -- The same for a channel that is in step or not and holds these octets, and for a channel.
-pub record Followable (inStep : Bool) (held : List ℕ) (pointer : ℕ) (xs out list : List ℕ) : Type 0 where
+pub record Followable (inStep : Bool) (held : List ℕ) (pointer : ℕ) (xs : List ℕ) (l : Lent) : Type 0 where
   pub sound : Sound inStep held
-  pub heard : Heard pointer xs out list
+  pub heard : Heard pointer xs l
 
-pub record Asked (c : Channel) (pointer : ℕ) (xs out list : List ℕ) : Type 0 where
+pub record Asked (c : Channel) (pointer : ℕ) (xs : List ℕ) (l : Lent) : Type 0 where
   pub sound : channelUnsound c ≡ false
-  pub heard : Heard pointer xs out list
+  pub heard : Heard pointer xs l

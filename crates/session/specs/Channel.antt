@@ -5,18 +5,13 @@ use mathlib.Core.Bool.{Bool, true, false, _||_}
 use mathlib.Core.Option.{Option, none, some}
 use lib.ListN.{length, take, replicate}
 use lib.Dec.{ltb}
+use Rattle.counts.specs.Lost.{lastOf}
+use Rattle.frame.specs.Limits.{longestTime}
+use Rattle.rules.specs.Limits.{mostHeld}
 use Rattle.rules.specs.Channel as rules
 use Rattle.rules.specs.Bounds.{heldWrong}
 use Rattle.session.specs.declared.Channel.{Channel}
 use Rattle.session.specs.declared.Session.{Session}
-
--- The last count, if a frame was heard.
-abbrev pub lastOf : Bool → ℕ → Option ℕ
-lastOf true n = some n
-lastOf false n = none
-
-abbrev pub heldOf : List ℕ → rules.Held
-heldOf octets = record { octets = octets }
 
 -- The channel that the rules speak of: of the array's octets, the first `length` are held.
 unfoldable pub view : Channel → rules.Channel
@@ -24,7 +19,7 @@ view c =
     record {
       last = lastOf (c .heard) (c .last .0);
       inStep = c .instep;
-      held = heldOf (take (c .length) (c .held));
+      held = rules.heldOf (take (c .length) (c .held));
     }
 
 abbrev pub heardOf : Option ℕ → Bool
@@ -43,7 +38,7 @@ stored c =
       heard = heardOf (c .last);
       instep = c .inStep;
       length = length (c .held .octets);
-      held = c .held .octets ++ replicate (250 - length (c .held .octets)) 0;
+      held = c .held .octets ++ replicate (mostHeld - length (c .held .octets)) 0;
     }
 
 -- After a frame with this count.
@@ -63,4 +58,4 @@ anyUnsound (c ∷ cs) = channelUnsound c || anyUnsound cs
 
 -- Refusal 4: a session with t above 8, or with such a channel.
 unfoldable pub unsound : Session → Bool
-unsound s = ltb 8 (s .t) || anyUnsound (s .channels)
+unsound s = ltb longestTime (s .t) || anyUnsound (s .channels)

@@ -1,5 +1,6 @@
 pub mod Asked
 pub mod Channel
+pub mod Lent
 pub mod Open
 pub mod Promised
 pub mod Statements

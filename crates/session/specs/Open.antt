@@ -7,6 +7,8 @@ use lib.Dec.{ltb}
 use Rattle.octets.specs.Pick.{pick}
 use Rattle.answer.specs.Told.{Told, accept, refuse}
 use Rattle.answer.specs.Refusals.{timeLength}
+use Rattle.frame.specs.Limits.{longestTime}
+use Rattle.rules.specs.Limits.{virtualChannels}
 use Rattle.session.specs.Channel.{fresh}
 use Rattle.session.specs.declared.Session.{Session}
 use Rattle.session.specs.declared.Opened.{Opened}
@@ -20,7 +22,7 @@ told (Refused n) = refuse tt n
 
 -- A fresh session: nothing heard yet, and the last arrival number used.
 abbrev pub opened : ℕ → ℕ → Session
-opened t last = record { t = t; arrival = last; master = record { 0 = 0 }; heard = false; channels = replicate 8 fresh }
+opened t last = record { t = t; arrival = last; master = record { 0 = 0 }; heard = false; channels = replicate virtualChannels fresh }
 
 pub record Opening : Type 0 where
   pub session : Session
@@ -29,7 +31,7 @@ pub record Opening : Type 0 where
 -- 2 with t above 8, and then the fresh session of t = 0.
 unfoldable pub opening : ℕ → ℕ → Opening
 opening t last =
-    pick (ltb 8 t) (record { session = opened 0 0; answer = refuse tt timeLength })
+    pick (ltb longestTime t) (record { session = opened 0 0; answer = refuse tt timeLength })
     (record { session = opened t last; answer = accept tt })
 
 -- The contract of opening.

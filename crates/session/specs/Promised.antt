@@ -6,12 +6,14 @@ use mathlib.Core.Bool.{Bool, _&&_}
 use lib.ListN.{length, take, drop}
 use Rattle.octets.specs.Parts.{written}
 use Rattle.rules.specs.Channel.{Work, Answer}
-use Rattle.rules.specs.Packets.{bare, joined}
+use Rattle.rules.specs.Packets.{joined}
 use Rattle.rules.specs.Cutting.{cutOf}
-use Rattle.session.specs.Channel.{stored}
+use Rattle.session.specs.Channel.{channelOf, stored}
+use Rattle.session.specs.Lent.{Lent, laid}
 use Rattle.session.specs.Asked.{Left}
 use Rattle.session.specs.declared.cutting.Found.{Found}
 use Rattle.session.specs.declared.channels.Followed.{Followed}
+use Rattle.session.specs.declared.channels.Heeded.{Heeded}
 
 -- Rule 5 on held and xs end to end: the packets are their front, and the rest is held or dropped; the lengths are in the lent list.
 pub record Cuts (held xs : List ℕ) (r : Found) (list list′ : List ℕ) : Type 0 where
@@ -28,10 +30,15 @@ pub record Cuts (held xs : List ℕ) (r : Found) (list list′ : List ℕ) : Typ
 abbrev pub inStepIf : Bool → Work → Work
 inStepIf b w = record { inStep = b && w .inStep; held = w .held; packets = w .packets }
 
--- A channel after a frame, and what is handed out, by what the rules answer.
-pub record Follows (a : Answer) (r : Followed) (out list out′ list′ : List ℕ) : Type 0 where
+-- A channel after a frame with this count, and what is handed out, by the rules' work.
+pub record Follows (count : ℕ) (w : Work) (r : Followed) (l l′ : Lent) : Type 0 where
+  pub channel : r .channel ≡ stored (channelOf count (w .inStep) (w .held))
+  pub packets : r .packets ≡ length (w .packets)
+  pub leaves : l′ ≡ laid (w .packets) l
+
+-- The same with the loss, by what the rules answer.
+pub record Heeds (a : Answer) (r : Heeded) (l l′ : Lent) : Type 0 where
   pub channel : r .channel ≡ stored (a .next)
   pub lost : r .lost ≡ a .lost
   pub packets : r .packets ≡ length (a .packets)
-  pub octets : out′ ≡ written (joined (bare (a .packets))) out
-  pub lengths : list′ ≡ written (map length (bare (a .packets))) list
+  pub leaves : l′ ≡ laid (a .packets) l

@@ -1,26 +1,56 @@
--- No session that opening and steps give gets refusal 4.
-use Prim.Native.Nat.{ℕ}
+-- What refusals tell and leave, and that no session that opening and steps give gets refusal 4.
+use Prim.Native.Nat.{ℕ, _<_}
 use mathlib.Core.Path.{_≡_}
 use mathlib.Core.List.{List, [], _∷_}
+use mathlib.Core.Bool.{false}
 use Rattle.answer.specs.Refusals as no
+use Rattle.frame.specs.Limits.{longestTime}
+use Rattle.session.specs.Lent.{Lent}
 use Rattle.session.specs.Open.{opening}
-use Rattle.session.specs.Step.{outcome}
+use Rattle.session.specs.Step.{told, Outcome, barred, outcome, turnedAway}
 use Rattle.session.specs.declared.Session.{Session}
+use Rattle.session.specs.declared.Accepted.{Accepted}
+use Rattle.session.specs.declared.StepAnswer.{StepAnswer}
 
--- What a step is given beside the session: a frame's octets, and the numbers of octets and of lengths lent.
+-- A refusal's answer holds its number and 0 in every other field.
+pub record AllZero (a : Accepted) : Type 0 where
+  pub arrival : a .arrival ≡ 0
+  pub channel : a .channel ≡ 0
+  pub lost : a .lost ≡ 0
+  pub master : a .master ≡ 0
+  pub packets : a .packets ≡ 0
+
+abbrev pub RefusalsTell0 : Type 0
+RefusalsTell0 = (r : StepAnswer) → told r .accepted ≡ false → AllZero (told r .fields)
+
+-- A refused opening's session is a fresh one of t = 0: what opening gives for t = 0 with no number used.
+abbrev pub RefusedFresh : Type 0
+RefusedFresh = (t last : ℕ) → longestTime < t → opening t last .session ≡ opening 0 0 .session
+
+-- What is offered to a session: a frame's octets, or a stretch that was refused with a number before any frame could be read.
+pub data Stretch : Type 0 where
+  found : List ℕ → Stretch
+  unread : ℕ → Stretch
+
+-- What comes of it, by `Session::step` or by `Session::turn_away`.
+abbrev pub offered : Session → Stretch → Lent → Outcome
+offered s (found x) l = outcome s x l
+offered s (unread n) l = turnedAway s n l
+
 pub record Offer : Type 0 where
-  pub frame : List ℕ
-  pub octets : ℕ
-  pub lengths : ℕ
+  pub stretch : Stretch
+  pub lent : Lent
 
--- The session after a list of steps.
+-- The session after a list of offers.
 abbrev pub after : Session → List Offer → Session
 after s [] = s
-after s (o ∷ os) = after (outcome s (o .frame) (o .octets) (o .lengths) .session) os
+after s (o ∷ os) = after (offered s (o .stretch) (o .lent) .session) os
 
--- Whatever t and last number it was opened with, a refused opening's too, and whatever frames and room were offered: no next step
--- answers 4.
+-- Whatever t and last number it was opened with, a refused opening's too, and whatever was offered and lent: refusal 4 bars nothing,
+-- and no next step answers 4.
+pub record Never4 (s : Session) : Type 0 where
+  pub bars : (l : Lent) → barred s l ≡ no.session → ⊥
+  pub answers : (x : List ℕ) (l : Lent) → outcome s x l .answer .refusal ≡ no.session → ⊥
+
 abbrev pub StaysSound : Type 0
-StaysSound =
-    (t last : ℕ) (steps : List Offer) (o : Offer)
-    → outcome (after (opening t last .session) steps) (o .frame) (o .octets) (o .lengths) .answer .refusal ≡ no.session → ⊥
+StaysSound = (t last : ℕ) (offers : List Offer) → Never4 (after (opening t last .session) offers)

@@ -1,52 +1,44 @@
 -- A step: what a session makes of a frame, by document 01, 'The session'.
 use Prim.Native.Nat.{ℕ, _+_}
 use mathlib.Core.Path.{_≡_}
-use mathlib.Core.List.{List, [], map}
-use mathlib.Core.Bool.{true, _||_}
+use mathlib.Core.List.{List, []}
+use mathlib.Core.Bool.{true}
 use lib.ListN.{length, getD, set}
-use lib.Dec.{ltb, eqb}
+use lib.Dec.{eqb}
 use Rattle.octets.specs.Pick.{pick}
-use Rattle.octets.specs.Parts.{written}
 use Rattle.answer.specs.Told.{Told, accept, refuse}
 use Rattle.answer.specs.Refusals as no
 use Rattle.frame.specs.Frame.{readFrame, dataOf}
 use Rattle.frame.specs.declared.Frame.{Frame}
-use Rattle.rules.specs.Channel.{Piece, Answer, lostSince, step}
-use Rattle.rules.specs.Packets.{bare, joined}
-use Rattle.session.specs.Channel.{lastOf, view, stored, fresh, unsound}
+use Rattle.counts.specs.Lost.{lastOf, lostSince}
+use Rattle.rules.specs.Limits.{lastNumber}
+use Rattle.rules.specs.Channel.{Piece, Handed, Answer, step}
+use Rattle.session.specs.Channel.{view, stored, fresh, unsound}
+use Rattle.session.specs.Lent.{Lent, scant, laid}
 use Rattle.session.specs.declared.Channel.{Channel}
 use Rattle.session.specs.declared.Session.{Session}
 use Rattle.session.specs.declared.Stepped.{Stepped}
+use Rattle.session.specs.declared.Accepted.{Accepted}
 use Rattle.session.specs.declared.StepAnswer.{StepAnswer}
 use Rattle.session.specs.declared.StepAnswer.the-variants as answer
-
--- What an accepted step tells.
-pub record Accepted : Type 0 where
-  pub arrival : ℕ
-  pub channel : ℕ
-  pub lost : ℕ
-  pub master : ℕ
-  pub packets : ℕ
 
 -- Every field 0.
 abbrev pub nothingTold : Accepted
 nothingTold = record { arrival = 0; channel = 0; lost = 0; master = 0; packets = 0 }
 
 abbrev pub told : StepAnswer → Told Accepted
-told (answer.Accepted arrival channel lost master packets) =
-    accept (record { arrival = arrival; channel = channel; lost = lost; master = master; packets = packets })
+told (answer.Accepted a) = accept a
 told (answer.Refused n) = refuse nothingTold n
 
--- The next session, the answer, the packets end to end and their lengths.
+-- The next session, the answer, and the packets handed out.
 pub record Outcome : Type 0 where
   pub session : Session
   pub answer : Told Accepted
-  pub octets : List ℕ
-  pub lengths : List ℕ
+  pub packets : List Handed
 
 -- A refusal hands nothing out.
 abbrev pub refused : Session → ℕ → Outcome
-refused s n = record { session = s; answer = refuse nothingTold n; octets = []; lengths = [] }
+refused s n = record { session = s; answer = refuse nothingTold n; packets = [] }
 
 -- Every frame offered takes the next arrival number.
 abbrev pub counted : Session → Session
@@ -81,29 +73,42 @@ accepted s f octets =
             master = lostSince (lastOf (s .heard) (s .master .0)) (f .master .0);
             packets = length (ruled s f octets .packets);
           });
-      octets = joined (bare (ruled s f octets .packets));
-      lengths = map length (bare (ruled s f octets .packets));
+      packets = ruled s f octets .packets;
     }
 
 -- By what the frame's reader tells: accepted, or 10 to 15.
 abbrev pub heeded : Session → List ℕ → Told Frame → Outcome
 heeded s frame r = pick (r .accepted) (accepted s (r .fields) (dataOf (r .fields) frame)) (refused s (r .refusal))
 
--- 1, 4, 3, then 10 to 15: of a session, a frame's octets, and the numbers of octets and of lengths lent.
-unfoldable pub outcome : Session → List ℕ → ℕ → ℕ → Outcome
-outcome s frame octets lengths =
-    pick (ltb octets 501 || ltb lengths 16) (refused s no.room)
-    (pick (unsound s) (refused s no.session)
-    (pick (eqb (s .arrival) 4294967295) (refused s no.arrivals)
-    (heeded (counted s) frame (readFrame (s .t) frame))))
+-- ---- what is offered
 
--- What is answered and left by an outcome o: out and list are the octets and lengths lent, out′ and list′ the same afterwards.
-pub record Gives (o : Outcome) (r : Stepped) (out list out′ list′ : List ℕ) : Type 0 where
+-- Refusals 1, 4 and 3 in this order; 0 if none holds.
+unfoldable pub barred : Session → Lent → ℕ
+barred s l = pick (scant l) no.room (pick (unsound s) no.session (pick (eqb (s .arrival) lastNumber) no.arrivals 0))
+
+-- The gate for all that is offered: where none of them holds, o.
+abbrev pub admitted : Session → Lent → Outcome → Outcome
+admitted s l o = pick (eqb (barred s l) 0) o (refused s (barred s l))
+
+-- A frame's octets: 1, 4, 3, then 10 to 15.
+unfoldable pub outcome : Session → List ℕ → Lent → Outcome
+outcome s frame l = admitted s l (heeded (counted s) frame (readFrame (s .t) frame))
+
+-- A stretch that was refused with n before any frame could be read: 1, 4, 3, then n. It uses up an arrival number.
+unfoldable pub turnedAway : Session → ℕ → Lent → Outcome
+turnedAway s n l = admitted s l (refused (counted s) n)
+
+-- ---- the contracts
+
+-- What is answered and left by an outcome o: l is what was lent, and l′ the same afterwards.
+pub record Gives (o : Outcome) (r : Stepped) (l l′ : Lent) : Type 0 where
   pub session : r .session ≡ o .session
   pub answers : told (r .answer) ≡ o .answer
-  pub octets : out′ ≡ written (o .octets) out
-  pub lengths : list′ ≡ written (o .lengths) list
+  pub leaves : l′ ≡ laid (o .packets) l
 
--- The contract of a step.
-abbrev pub Steps : Session → List ℕ → List ℕ → List ℕ → Stepped → List ℕ → List ℕ → Type 0
-Steps s frame out list r out′ list′ = Gives (outcome s frame (length out) (length list)) r out list out′ list′
+-- Of a step, and of turning a stretch away.
+abbrev pub Steps : Session → List ℕ → Lent → Stepped → Lent → Type 0
+Steps s frame l r l′ = Gives (outcome s frame l) r l l′
+
+abbrev pub TurnsAway : Session → ℕ → Lent → Stepped → Lent → Type 0
+TurnsAway s n l r l′ = Gives (turnedAway s n l) r l l′

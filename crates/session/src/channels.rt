@@ -3,27 +3,39 @@ ghost use mathlib.Core.Path.{_≡_};
 ghost use mathlib.Core.List.{[], _++_};
 ghost use Prim.Native.Nat.{ℕ, _+_, _≤_};
 ghost use lib.ListN.{length, drop};
-ghost use Rattle.rules.specs.Channel.{feed, holding, follow, answer, lostSince, step};
-ghost use Rattle.session.specs.Channel.{lastOf, heldOf, view, channelOf, stored, fresh, channelUnsound};
+ghost use Rattle.rules.specs.Channel.{heldOf, feed, holding, follow, step};
+ghost use Rattle.session.specs.Channel.{view, channelOf, stored, fresh, channelUnsound};
+ghost use Rattle.session.specs.Lent.{lent};
 ghost use Rattle.session.specs.Asked.{Asked, Followable, Left, Taken};
-ghost use Rattle.session.specs.Promised.{inStepIf, Follows};
+ghost use Rattle.session.specs.Promised.{inStepIf, Follows, Heeds};
 use super::Channel;
 use super::cutting;
 use counts::ChannelCount;
+use frame::Frame;
+use packet::Packet;
 
 // A channel after a frame, how many were lost before it, and how many packets were handed out.
-pub(crate) struct Followed {
+pub(crate) struct Heeded {
     pub channel: Channel,
     pub lost: u8,
     pub packets: u8,
 }
 
+// The same without the loss, as rules 2 to 5 leave it.
+pub(crate) struct Followed {
+    pub channel: Channel,
+    pub packets: u8,
+}
+
 impl Channel {
+    // The octets of an unfinished packet that are held at most.
+    pub const HELD: usize = 250;
+
     // A channel that heard nothing yet.
     pub(crate) fn fresh() -> Channel
         ensures { λ r. ⌜ r ≡ fresh ⌝ }
     {
-        let held = [0u8; 250];
+        let held = [0u8; Channel::HELD];
         Channel {
             last: ChannelCount(0),
             heard: false,
@@ -42,24 +54,14 @@ impl Channel {
         if n == 0 {
             return false;
         }
-        if (250 < n) | !self.instep {
+        if (Channel::HELD < n) | !self.instep {
             return true;
         }
         if n < 6 {
             return false;
         }
         let whole = octets::word(self.held[4], self.held[5]) as usize + 7;
-        (whole < 16) | (251 < whole) | (whole <= n)
-    }
-
-    // How many of a channel's frames were lost before the one with this count, after the last heard, if one was.
-    fn lost(heard: bool, last: ChannelCount, count: ChannelCount) -> u8
-        ensures { λ r. ⌜ r ≡ lostSince (lastOf heard (last .0)) (count .0) ⌝ }
-    {
-        if heard {
-            return count.lost(last);
-        }
-        0
+        (whole < Packet::LEAST) | (Packet::GREATEST < whole) | (whole <= n)
     }
 
     // The channel that holds first and then second, with zeros behind them.
@@ -69,7 +71,7 @@ impl Channel {
     {
         let k = first.len();
         let n = k + second.len();
-        let mut held = [0u8; 250];
+        let mut held = [0u8; Channel::HELD];
         octets::put(&mut held, 0, first);
         octets::put(&mut held, k, second);
         Channel {
@@ -103,51 +105,46 @@ impl Channel {
         data: &[u8],
         octets: &mut [u8],
         lengths: &mut [u16],
-    ) -> Followed
-        requires { ⌜ Asked self pointer (now «data») (now octets) (now lengths) ⌝ }
-        ensures { λ r. ⌜ ((a : ℕ) → Follows (step a (view self) (record { count = count .0; pointer = pointer; octets = now («data» .entry) })) r (now (octets .entry)) (now (lengths .entry)) (now (octets .exit)) (now (lengths .exit))) ⌝ }
+    ) -> Heeded
+        requires { ⌜ Asked self pointer (now «data») (lent (now octets) (now lengths)) ⌝ }
+        ensures { λ r. ⌜ ((a : ℕ) → Heeds (step a (view self) (record { count = count .0; pointer = pointer; octets = now («data» .entry) })) r (lent (now (octets .entry)) (now (lengths .entry))) (lent (now (octets .exit)) (now (lengths .exit)))) ⌝ }
     {
         let held = self.held;
         let last = self.last;
-        let lost = Channel::lost(self.heard, last, count);
+        let lost = count.lost(self.heard, last);
         let mut k = self.length as usize;
         let mut instep = self.instep;
         if 0 < lost {
             k = 0;
             instep = false;
         }
-        follow(
-            count,
-            pointer,
+        let followed = follow(count, pointer, instep, &held[..k], data, octets, lengths);
+        let channel = followed.channel;
+        Heeded {
+            channel,
             lost,
-            instep,
-            &held[..k],
-            data,
-            octets,
-            lengths,
-        )
+            packets: followed.packets,
+        }
     }
 }
 
-// Rules 2 to 5, for a channel with these held octets, before whose frame so many were lost.
+// Rules 2 to 5, for a channel with these held octets.
 fn follow(
     count: ChannelCount,
     pointer: u8,
-    lost: u8,
     instep: bool,
     held: &[u8],
     data: &[u8],
     octets: &mut [u8],
     lengths: &mut [u16],
 ) -> Followed
-    requires { ⌜ Followable instep (now held) pointer (now «data») (now octets) (now lengths) ⌝ }
-    ensures { λ r. ⌜ ((a : ℕ) → Follows (answer (count .0) lost (follow a instep (heldOf (now (held .entry))) pointer (now («data» .entry)))) r (now (octets .entry)) (now (lengths .entry)) (now (octets .exit)) (now (lengths .exit))) ⌝ }
+    requires { ⌜ Followable instep (now held) pointer (now «data») (lent (now octets) (now lengths)) ⌝ }
+    ensures { λ r. ⌜ ((a : ℕ) → Follows (count .0) (follow a instep (heldOf (now (held .entry))) pointer (now («data» .entry))) r (lent (now (octets .entry)) (now (lengths .entry))) (lent (now (octets .exit)) (now (lengths .exit)))) ⌝ }
 {
-    if pointer == 254 {
+    if pointer == Frame::RAW_DATA {
         let channel = Channel::holding(count, instep, held, &data[..0]);
         return Followed {
             channel,
-            lost,
             packets: 0,
         };
     }
@@ -156,36 +153,31 @@ fn follow(
     let mut on = true;
     if instep & cutting::fits(held, data, pointer) {
         k = held.len();
-    } else if pointer == 255 {
+    } else if pointer == Frame::NONE_STARTS {
         at = data.len();
         on = false;
     } else {
         at = pointer as usize;
     }
-    take(count, lost, on, &held[..k], &data[at..], octets, lengths)
+    take(count, on, &held[..k], &data[at..], octets, lengths)
 }
 
 // Rule 5: packets taken one after another out of the held octets and the data, and the rest held; `on` if a packet goes on or starts
 // there, else out of step.
 fn take(
     count: ChannelCount,
-    lost: u8,
     on: bool,
     held: &[u8],
     data: &[u8],
     octets: &mut [u8],
     lengths: &mut [u16],
 ) -> Followed
-    requires { ⌜ Taken (now held) (now «data») (now octets) (now lengths) ⌝ }
-    ensures { λ r. ⌜ ((a : ℕ) → Follows (answer (count .0) lost (inStepIf on (feed a (holding (heldOf (now (held .entry))) []) (now («data» .entry))))) r (now (octets .entry)) (now (lengths .entry)) (now (octets .exit)) (now (lengths .exit))) ⌝ }
+    requires { ⌜ Taken (now held) (now «data») (lent (now octets) (now lengths)) ⌝ }
+    ensures { λ r. ⌜ ((a : ℕ) → Follows (count .0) (inStepIf on (feed a (holding (heldOf (now (held .entry))) []) (now («data» .entry)))) r (lent (now (octets .entry)) (now (lengths .entry))) (lent (now (octets .exit)) (now (lengths .exit)))) ⌝ }
 {
     let cut = cutting::cut(held, data, lengths);
     cutting::hand_out(held, data, cut.octets, octets);
     let channel = Channel::left(count, on & cut.instep, held, data, cut.kept);
     let packets = cut.packets as u8;
-    Followed {
-        channel,
-        lost,
-        packets,
-    }
+    Followed { channel, packets }
 }

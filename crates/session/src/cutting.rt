@@ -9,6 +9,8 @@ ghost use Rattle.octets.specs.Numbers.{at};
 ghost use Rattle.rules.specs.Channel.{lengthIn, fits, pointerTo};
 ghost use Rattle.session.specs.Asked.{Begun, Counted, Front};
 ghost use Rattle.session.specs.Promised.{Cuts};
+use frame::Frame;
+use packet::Packet;
 
 // The packets found: how many, how many octets they have, where what stays held begins, and in step or not afterwards.
 pub(crate) struct Found {
@@ -47,7 +49,7 @@ fn points(pointer: u8, place: usize, n: usize) -> bool
     if place < n {
         return pointer as usize == place;
     }
-    pointer == 255
+    pointer == Frame::NONE_STARTS
 }
 
 // Whether a frame with this pointer and this data goes on from what is held: rule 3.
@@ -64,7 +66,7 @@ pub(crate) fn fits(held: &[u8], data: &[u8], pointer: u8) -> bool
         return points(pointer, n, n);
     }
     let whole = length_at(held, data, 0);
-    if (whole < 16) | (251 < whole) {
+    if (whole < Packet::LEAST) | (Packet::GREATEST < whole) {
         return false;
     }
     points(pointer, whole - k, n)
@@ -80,7 +82,7 @@ pub(crate) fn cut(held: &[u8], data: &[u8], lengths: &mut [u16]) -> Found
     let mut at = 0;
     while 6 <= all - at {
         let n = length_at(held, data, at);
-        if (n < 16) | (251 < n) {
+        if (n < Packet::LEAST) | (Packet::GREATEST < n) {
             return Found {
                 packets,
                 octets: at,

@@ -1,9 +1,9 @@
 // A session: eight virtual channels that take frames one after another and hand out packets.
 ghost use mathlib.Core.Path.{_≡_};
-ghost use Rattle.rules.specs.Channel.{lostSince};
-ghost use Rattle.session.specs.Channel.{lastOf, unsound};
+ghost use Rattle.session.specs.Channel.{unsound};
 ghost use Rattle.session.specs.Open.{opened, Opens};
-ghost use Rattle.session.specs.Step.{Steps};
+ghost use Rattle.session.specs.Lent.{lent, scant};
+ghost use Rattle.session.specs.Step.{Steps, TurnsAway};
 use counts::ChannelCount;
 use counts::MasterCount;
 use frame::Frame;
@@ -18,7 +18,7 @@ pub struct Channel {
     pub heard: bool,
     pub instep: bool,
     pub length: u8,
-    pub held: [u8; 250],
+    pub held: [u8; Channel::HELD],
 }
 
 // A session: t, the last arrival number used, the last master count if a frame was heard, and the eight channels.
@@ -27,7 +27,7 @@ pub struct Session {
     pub arrival: u32,
     pub master: MasterCount,
     pub heard: bool,
-    pub channels: [Channel; 8],
+    pub channels: [Channel; Session::CHANNELS],
 }
 
 // What opening answers: accepted, or the refusal's number.
@@ -42,16 +42,18 @@ pub struct Opened {
     pub answer: OpenAnswer,
 }
 
-// What a step answers: the frame's arrival number and channel, the frames lost on it and over all, and how many packets were handed
-// out; or the refusal's number.
+// An accepted frame: its arrival number and channel, the frames lost on it and over all, and how many packets were handed out.
+pub struct Accepted {
+    pub arrival: u32,
+    pub channel: u8,
+    pub lost: u8,
+    pub master: u8,
+    pub packets: u8,
+}
+
+// What a step answers: an accepted frame, or the refusal's number.
 pub enum StepAnswer {
-    Accepted {
-        arrival: u32,
-        channel: u8,
-        lost: u8,
-        master: u8,
-        packets: u8,
-    },
+    Accepted(Accepted),
     Refused(u16),
 }
 
@@ -62,6 +64,18 @@ pub struct Stepped {
 }
 
 impl Session {
+    // What is lent to a step at least: octets for the packets, and entries for their lengths.
+    pub const OCTETS: usize = 501;
+
+    pub const LENGTHS: usize = 16;
+
+    // The virtual channels, the most time octets of a frame, and the last arrival number.
+    pub const CHANNELS: usize = 8;
+
+    pub const TIME: u8 = Frame::LONGEST_TIME as u8;
+
+    pub const LAST: u32 = 4294967295;
+
     // The session that heard nothing yet.
     fn fresh(t: u8, last: u32) -> Session
         ensures { λ r. ⌜ r ≡ opened t last ⌝ }
@@ -72,7 +86,7 @@ impl Session {
             arrival: last,
             master: MasterCount(0),
             heard: false,
-            channels: [channel; 8],
+            channels: [channel; Session::CHANNELS],
         }
     }
 
@@ -80,7 +94,7 @@ impl Session {
     pub fn open(t: u8, last: u32) -> Opened
         ensures { λ r. ⌜ Opens t last r ⌝ }
     {
-        if 8 < t {
+        if Session::TIME < t {
             let session = Session::fresh(0, 0);
             return Opened {
                 session,
@@ -94,15 +108,15 @@ impl Session {
         }
     }
 
-    // Whether refusal 4 holds of the session.
+    // Whether refusal 4 holds: t above 8, or a channel of which it holds.
     fn unsound(self) -> bool
         ensures { λ r. ⌜ r ≡ unsound self ⌝ }
     {
-        if 8 < self.t {
+        if Session::TIME < self.t {
             return true;
         }
         let mut i = 0;
-        while i < 8 {
+        while i < Session::CHANNELS {
             if self.channels[i].unsound() {
                 return true;
             }
@@ -111,28 +125,18 @@ impl Session {
         false
     }
 
-    // How many frames of all channels were lost before the one with this master count, after the last heard, if one was.
-    fn lost(heard: bool, last: MasterCount, master: MasterCount) -> u8
-        ensures { λ r. ⌜ r ≡ lostSince (lastOf heard (last .0)) (master .0) ⌝ }
-    {
-        if heard {
-            return master.lost(last);
-        }
-        0
-    }
-
     // The session after a frame is offered; the packets that it completes are end to end at the start of octets, their lengths at the
     // start of lengths. Else the first refusal of 1, 4, 3 and the frame's 10 to 15, of which 10 to 15 use up an arrival number.
     // What is lent stays beyond that.
     pub fn step(mut self, frame: &[u8], octets: &mut [u8], lengths: &mut [u16]) -> Stepped
-        ensures { λ r. ⌜ Steps self (now (frame .entry)) (now (octets .entry)) (now (lengths .entry)) r (now (octets .exit)) (now (lengths .exit)) ⌝ }
+        ensures { λ r. ⌜ Steps self (now (frame .entry)) (lent (now (octets .entry)) (now (lengths .entry))) r (lent (now (octets .exit)) (now (lengths .exit))) ⌝ }
     {
         let answer;
-        if (octets.len() < 501) | (lengths.len() < 16) {
+        if scant(octets, lengths) {
             answer = StepAnswer::Refused(answer::ROOM);
         } else if self.unsound() {
             answer = StepAnswer::Refused(answer::SESSION);
-        } else if self.arrival == 4294967295 {
+        } else if self.arrival == Session::LAST {
             answer = StepAnswer::Refused(answer::ARRIVALS);
         } else {
             self.arrival += 1;
@@ -142,22 +146,22 @@ impl Session {
                 }
                 FrameRead::Frame(f) => {
                     let i = f.channel as usize;
-                    let followed = self.channels[i]
+                    let heeded = self.channels[i]
                         .heed(f.count, f.pointer, f.data(frame), octets, lengths);
-                    let channel = followed.channel;
+                    let channel = heeded.channel;
                     let last = self.master;
                     let master = f.master;
-                    let lost = Session::lost(self.heard, last, master);
+                    let lost = master.lost(self.heard, last);
                     self.channels[i] = channel;
                     self.master = master;
                     self.heard = true;
-                    answer = StepAnswer::Accepted {
+                    answer = StepAnswer::Accepted(Accepted {
                         arrival: self.arrival,
                         channel: f.channel,
-                        lost: followed.lost,
+                        lost: heeded.lost,
                         master: lost,
-                        packets: followed.packets,
-                    };
+                        packets: heeded.packets,
+                    });
                 }
             }
         }
@@ -166,4 +170,33 @@ impl Session {
             answer,
         }
     }
+
+    // The session after a stretch that was refused before any frame could be read: the first of 1, 4, 3, else its own refusal,
+    // which uses up an arrival number. The channels stay.
+    fn turn_away(mut self, own: u16, octets: &[u8], lengths: &[u16]) -> Stepped
+        ensures { λ r. ⌜ TurnsAway self own (lent (now (octets .entry)) (now (lengths .entry))) r (lent (now (octets .entry)) (now (lengths .entry))) ⌝ }
+    {
+        let answer;
+        if scant(octets, lengths) {
+            answer = StepAnswer::Refused(answer::ROOM);
+        } else if self.unsound() {
+            answer = StepAnswer::Refused(answer::SESSION);
+        } else if self.arrival == Session::LAST {
+            answer = StepAnswer::Refused(answer::ARRIVALS);
+        } else {
+            self.arrival += 1;
+            answer = StepAnswer::Refused(own);
+        }
+        Stepped {
+            session: self,
+            answer,
+        }
+    }
+}
+
+// Whether refusal 1 holds of what is lent: under 501 octets, or under 16 lengths.
+fn scant(octets: &[u8], lengths: &[u16]) -> bool
+    ensures { λ r. ⌜ r ≡ scant (lent (now (octets .entry)) (now (lengths .entry))) ⌝ }
+{
+    (octets.len() < Session::OCTETS) | (lengths.len() < Session::LENGTHS)
 }

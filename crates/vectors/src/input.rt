@@ -1,9 +1,9 @@
-// A case's record: numbers of eight octets, high octet first, then octets. Number 0 is the kind, 1 and 2 are the name's place and length.
-ghost use Rattle.io.specs.Counts.{Counts};
+// A case's record: numbers of eight octets, high octet first, then octets; src/fields.rt has the fields' places.
+ghost use Prim.Native.Nat.{_≤_};
 
-// Number i of a record; 0 if it isn't there.
-pub(crate) fn number(c: &[u8], i: u8) -> u64 {
-    let s = octets::part(c, octets::wide(i) * 8, 8);
+// The number at a field's place; 0 if it isn't there.
+pub(crate) fn number(c: &[u8], field: u8) -> u64 {
+    let s = octets::part(c, octets::wide(field) * 8, 8);
     if s.len() < 8 {
         return 0;
     }
@@ -12,50 +12,29 @@ pub(crate) fn number(c: &[u8], i: u8) -> u64 {
     (high as u64) * 4294967296 + low as u64
 }
 
-// The same as 8, 16 or 32 bits, or a size.
-pub(crate) fn octet(c: &[u8], i: u8) -> u8 {
-    (number(c, i) % 256) as u8
+// The same in 8, 16 or 32 bits.
+pub(crate) fn octet(c: &[u8], field: u8) -> u8 {
+    (number(c, field) % 256) as u8
 }
 
-pub(crate) fn word(c: &[u8], i: u8) -> u16 {
-    (number(c, i) % 65536) as u16
+pub(crate) fn word(c: &[u8], field: u8) -> u16 {
+    (number(c, field) % 65536) as u16
 }
 
-pub(crate) fn four(c: &[u8], i: u8) -> u32 {
-    (number(c, i) % 4294967296) as u32
+pub(crate) fn four(c: &[u8], field: u8) -> u32 {
+    (number(c, field) % 4294967296) as u32
 }
 
-pub(crate) fn size(c: &[u8], i: u8) -> usize {
-    number(c, i) as usize
+// The octets whose place and number stand at a field's place; none if they aren't there.
+pub(crate) fn block(c: &[u8], field: u8) -> &[u8] {
+    let n = number(c, std::num::wrapping_add_u8(field, 1));
+    octets::part(c, number(c, field) as usize, n as usize)
 }
 
-// The octets of a record whose place and length are its numbers i and i + 1; none if they aren't there.
-pub(crate) fn block(c: &[u8], i: u8) -> &[u8] {
-    let at = size(c, i);
-    let n = size(c, std::num::wrapping_add_u8(i, 1));
-    octets::part(c, at, n)
-}
-
-// Number i of a record as a part of lent octets: at most all of them.
-pub(crate) fn room(c: &[u8], i: u8, out: &[u8]) -> usize
-    ensures { λ r. ⌜ Counts r (now (out .entry)) ⌝ }
+// The same number as a length, at most most.
+pub(crate) fn room(c: &[u8], field: u8, most: usize) -> usize
+    ensures { λ r. ⌜ r ≤ most ⌝ }
 {
-    let n = size(c, i);
-    if n < out.len() { n } else { out.len() }
-}
-
-// The same of a lent list of 16-bit numbers.
-pub(crate) fn room_words(c: &[u8], i: u8, list: &[u16]) -> usize
-    ensures { λ r. ⌜ Counts r (now (list .entry)) ⌝ }
-{
-    let n = size(c, i);
-    if n < list.len() { n } else { list.len() }
-}
-
-// The same of a lent list of 32-bit numbers.
-pub(crate) fn room_fours(c: &[u8], i: u8, list: &[u32]) -> usize
-    ensures { λ r. ⌜ Counts r (now (list .entry)) ⌝ }
-{
-    let n = size(c, i);
-    if n < list.len() { n } else { list.len() }
+    let n = number(c, field) as usize;
+    if n < most { n } else { most }
 }

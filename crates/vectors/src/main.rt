@@ -1,62 +1,81 @@
 // Runs the cases that stand on standard input through the public calls, and prints one line a case.
-mod checks;
+mod fields;
 mod frames;
 mod input;
+mod kinds;
+mod lists;
 mod packets;
-mod placings;
 mod reports;
-mod sequences;
 mod sessions;
 mod text;
 
 use libc::STDIN_FILENO;
+use session::Session;
 
-// Runs the case that a record is, by its kind, and prints what came of it.
-fn run(c: &[u8]) {
-    text::say(input::block(c, 1));
-    text::say(b": ");
-    match input::number(c, 0) {
-        1 => checks::packet_check(c),
-        2 => checks::frame_check(c),
-        3 => sequences::missing(c),
-        4 => packets::read(c),
-        5 => packets::write(c),
-        6 => frames::read(c),
-        7 => frames::write(c),
-        8 => placings::place(c),
-        9 => reports::read(c),
-        10 => reports::write(c),
-        11 => sessions::open(c),
-        12 => sessions::steps(c),
+// Runs a case by its kind on what is lent to it, and answers the session for the next.
+fn run(c: &[u8], s: Session, octets: &mut [u8], words: &mut [u16], fours: &mut [u32]) -> Session {
+    match input::octet(c, fields::KIND) {
+        kinds::PACKET_CHECK => text::check(
+            b"accepted ",
+            crc::packet_check(input::block(c, fields::INPUT)),
+        ),
+        kinds::FRAME_CHECK => text::check(
+            b"accepted ",
+            crc::frame_check(input::block(c, fields::INPUT)),
+        ),
+        kinds::SEQUENCE => lists::missing(c, words),
+        kinds::PACKET_READER => packets::read(c),
+        kinds::PACKET_WRITER => packets::write(c, octets),
+        kinds::FRAME_READER => frames::read(c),
+        kinds::FRAME_WRITER => frames::write(c, octets),
+        kinds::PLACING => lists::place(c, octets, fours),
+        kinds::REPORT_READER => reports::read(c),
+        kinds::REPORT_WRITER => reports::write(c, octets),
+        kinds::SESSION_OPEN => return sessions::open(c),
+        kinds::SESSION => return sessions::given(c),
+        kinds::SESSION_STEP => return sessions::step(c, s, octets, words),
         _ => text::say(b"no such kind"),
     }
+    s
+}
+
+// Lends what the case asks for, and runs it behind its name.
+fn lend(c: &[u8], s: Session) -> Session {
+    let octet = input::octet(c, fields::OCTET);
+    let word = input::word(c, fields::WORD);
+    let mut octets = [octet; 30000];
+    let mut words = [word; 2051];
+    let mut fours = [0u32; 200];
+    let n = input::room(c, fields::OCTETS, 30000);
+    let m = input::room(c, fields::WORDS, 2051);
+    let k = input::room(c, fields::FOURS, 200);
+    text::say(input::block(c, fields::NAME));
+    text::say(b": ");
+    let next = run(c, s, &mut octets[..n], &mut words[..m], &mut fours[..k]);
     text::say(b"\n");
+    next
 }
 
-// Reads a case of the record's length and runs it; answers whether the case was there.
-fn read(record: &mut [u8]) -> bool {
-    let n = io::read_full(STDIN_FILENO, record);
-    if n < record.len() {
-        return false;
-    }
-    run(record);
-    true
+// Reads a record as long as what is lent, and runs it.
+fn read(record: &mut [u8], s: Session) -> Session {
+    io::read_full(STDIN_FILENO, record);
+    lend(record, s)
 }
 
-// Reads the next case's length and the case, and runs it; answers whether there was one.
-fn next() -> bool {
-    let mut head = [0u8; 8];
-    if io::read_full(STDIN_FILENO, &mut head) < 8 {
-        return false;
-    }
+// The same with the length that stands before it.
+fn next(head: &[u8], s: Session) -> Session {
     let mut record = io::large_buffer();
-    let n = input::room(&head, 0, &record);
-    read(&mut record[..n])
+    let n = input::room(head, 0, 65536);
+    read(&mut record[..n], s)
 }
 
 fn main() {
+    let opened = Session::open(0, 0);
+    let mut s = opened.session;
+    let mut head = [0u8; 8];
     let mut left = u64::MAX;
-    while left > 0 && next() {
+    while left > 0 && io::read_full(STDIN_FILENO, &mut head) == 8 {
+        s = next(&head, s);
         left -= 1;
     }
 }

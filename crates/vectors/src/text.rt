@@ -12,64 +12,85 @@ pub(crate) fn field(name: &[u8], n: u64) {
     io::print_decimal(STDOUT_FILENO, n);
 }
 
-// Prints an octet by two hexadecimal digits.
-pub(crate) fn octet(x: u8) {
-    io::print_hex(STDOUT_FILENO, x as u64, 2);
+// Prints text, in it a number for each #.
+pub(crate) fn tell(text: &[u8], numbers: &[u64]) {
+    let mut k = 0;
+    let mut i = 0;
+    while i < text.len() {
+        if text[i] != b'#' {
+            say(octets::part(text, i, 1));
+        } else if k < numbers.len() {
+            io::print_decimal(STDOUT_FILENO, numbers[k]);
+            k += 1;
+        }
+        i += 1;
+    }
 }
 
-// Prints a name and octets by two hexadecimal digits each, "(none)" for none.
-pub(crate) fn octets(name: &[u8], s: &[u8]) {
+// Prints a name and a check, by four hexadecimal digits.
+pub(crate) fn check(name: &[u8], n: u16) {
+    say(name);
+    io::print_hex(STDOUT_FILENO, n as u64, 4);
+}
+
+// Prints a name and octets, by two hexadecimal digits each, "(none)" for none.
+pub(crate) fn hex(name: &[u8], s: &[u8]) {
     say(name);
     if s.len() == 0 {
         say(b"(none)");
     }
     let mut i = 0;
     while i < s.len() {
-        octet(s[i]);
+        io::print_hex(STDOUT_FILENO, octets::wide(s[i]) as u64, 2);
         i += 1;
     }
 }
 
-// Prints a refusal, and whether something lent changed with it.
-pub(crate) fn refusal(n: u16, changed: bool) {
-    field(b"refusal ", n as u64);
-    if changed {
-        say(b" changed");
+// How many octets there are up to the last that isn't x.
+pub(crate) fn used(s: &[u8], x: u8) -> usize {
+    let mut n = s.len();
+    while 0 < n && s[n - 1] == x {
+        n -= 1;
     }
+    n
 }
 
-// Whether any octet of s is not x.
-pub(crate) fn any_other(s: &[u8], x: u8) -> bool {
+// Prints a name, the octets up to the last that isn't x, and how many are left.
+pub(crate) fn lent(name: &[u8], s: &[u8], x: u8) {
+    let n = used(s, x);
+    hex(name, octets::part(s, 0, n));
+    field(b"+", std::num::wrapping_sub_usize(s.len(), n) as u64);
+}
+
+// A 16-bit number in 64 bits.
+fn wide_word(x: u16) -> u64 {
+    x as u64
+}
+
+// Prints a name and each number of a list that isn't x, behind its place.
+pub(crate) fn words(name: &[u8], s: &[u16], x: u16) {
+    say(name);
     let mut i = 0;
     while i < s.len() {
         if s[i] != x {
-            return true;
+            tell(b" #=#", &[i as u64, wide_word(s[i])]);
         }
         i += 1;
     }
-    false
 }
 
-// Whether any number of s from an index on is not x.
-pub(crate) fn any_other_word(s: &[u16], from: usize, x: u16) -> bool {
-    let mut i = from;
-    while i < s.len() {
-        if s[i] != x {
-            return true;
-        }
-        i += 1;
-    }
-    false
+// The same two of 32-bit numbers.
+fn wide_four(x: u32) -> u64 {
+    x as u64
 }
 
-// Whether any number of s is not x.
-pub(crate) fn any_other_four(s: &[u32], x: u32) -> bool {
+pub(crate) fn fours(name: &[u8], s: &[u32], x: u32) {
+    say(name);
     let mut i = 0;
     while i < s.len() {
         if s[i] != x {
-            return true;
+            tell(b" #=#", &[i as u64, wide_four(s[i])]);
         }
         i += 1;
     }
-    false
 }

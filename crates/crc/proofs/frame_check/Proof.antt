@@ -3,7 +3,7 @@ use Prim.Native.Nat.{_-_}
 use native.Mathlib.Omega.{arith}
 use lib.Dec.{lit<}
 use lib.ListN.{length}
-use Rattle.crc.specs.Check.Order.{lowFirst}
+use Rattle.bits.specs.Rows.Order.{lowFirst}
 use Rattle.crc.proofs.Passed.{Passed, passed-more, passed-all}
 use Rattle.crc.proofs.frame_check.Statement.{statement}
 use Rattle.crc.proofs.frame_check.Tie as tie

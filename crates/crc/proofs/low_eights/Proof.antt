@@ -6,7 +6,8 @@ use Prim.Native.Nat.{_-_}
 use native.Mathlib.Omega.{arith}
 use mir.Facts.{fits-lit}
 use lib.ListN.{length}
-use Rattle.crc.specs.Check.{zeros, run}
+use Rattle.bits.specs.Rows.{zeros}
+use Rattle.crc.specs.Check.{run}
 use Rattle.crc.proofs.Eights.{Stands, stands-more, stands-all, stands-none}
 use Rattle.crc.proofs.low_eights.Statement.{statement}
 use Rattle.crc.proofs.low_eights.Tie as tie

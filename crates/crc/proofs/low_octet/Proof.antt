@@ -1,7 +1,7 @@
 -- `crc::low_octet` meets its contract: a turn as by a table, with the table's word worked out.
 use mathlib.Core.Path.{refl}
 use borrow.Author.Needs.{needs}
-use Rattle.crc.specs.Check.Order.{lowFirst}
+use Rattle.bits.specs.Rows.Order.{lowFirst}
 use Rattle.crc.proofs.Turn.{place-lt, holds-turn}
 use Rattle.crc.proofs.Low.{octet-word}
 use Rattle.crc.proofs.low_octet.Statement.{statement}

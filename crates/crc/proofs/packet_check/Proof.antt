@@ -5,7 +5,7 @@ use native.Mathlib.Omega.{arith}
 use lib.Dec.{lit<}
 use lib.ListN.{length, getD}
 use lib.Bits.{bitXor, xor-zero-r}
-use Rattle.crc.specs.Check.Order.{highFirst}
+use Rattle.bits.specs.Rows.Order.{highFirst}
 use Rattle.crc.proofs.Turn.{tableWord}
 use Rattle.crc.proofs.Passed.{passed-all, right, Tabled, tabled-none, wide-place, wide-word, wide-more}
 use Rattle.crc.proofs.packet_check.Statement.{statement}
@@ -31,7 +31,7 @@ cast-crc-3 c = omega (arith, wide-word (c .before .before .loop .crc) (c .before
 
 loop-holds : tie.Need-loop-holds Inv-loop μ-loop
 unfolding right tableWord
-loop-holds c = tabled-none highFirst _ _ tt
+loop-holds c = tabled-none highFirst _ _ refl
 
 loop-again : tie.Need-loop-again Inv-loop μ-loop
 loop-again c = wide-more (c .before .before .loop .crc) (c .before .before .loop .inv) refl (c .before .loop-test .taken) (octet c)

@@ -1,7 +1,7 @@
 -- `image::lay` meets its contract.
 use native.Mathlib.Omega.{arith}
-use Prim.Native.Nat.{_*_}
 use mathlib.Core.Path.{refl, sym, _∙_}
+use Rattle.image.specs.Line.{start}
 use Rattle.octets.proofs.Placing.{put-fits}
 use borrow.Author.Needs.{needs}
 use Rattle.image.proofs.lay.Statement.{statement}
@@ -11,7 +11,7 @@ returns : tie.Need-returns
 returns c =
     let a = c .before .before .before .before .before .before .before .before .before .args in
     let put = c .before .before .before .before .put .ensures in
-    let e = put ∙ sym (put-fits (a .image .now) (188 * a .n) (a .pixels .now) (omega arith)) in
+    let e = put ∙ sym (put-fits (a .image .now) (start (a .n)) (a .pixels .now) (omega arith)) in
     rw (e, c .number .ensures) refl
 
 pub lay-spec : {M : Type 1} → statement M

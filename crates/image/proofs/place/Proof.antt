@@ -3,10 +3,11 @@ use mathlib.Core.Path.{sym, ap, _∙_}
 use mathlib.Core.Bool.{Bool}
 use lib.ListN.{length}
 use lib.Dec.{ltb}
-use borrow.Author.Tests.{eq-eqb, ne-eqb, ltb-false}
-use Rattle.octets.proofs.Choices.{picked, passed}
-use Rattle.octets.proofs.Tests.{or-left, or-right}
+use borrow.Author.Tests.{ne-eqb, ltb-false}
+use Rattle.octets.proofs.Choices.{answers, passed}
+use Rattle.octets.proofs.Tests.{tests, or-left, or-right}
 use Rattle.report.specs.Report.{told}
+use Rattle.image.specs.Line.{imageLines, imageOctets}
 use Rattle.image.specs.Placing.{outcome}
 use Rattle.image.proofs.Brings.{fits}
 use Rattle.image.proofs.Brought.{report-accepted, report-refused}
@@ -16,23 +17,22 @@ use Rattle.image.proofs.place.Tie as tie
 
 returns : tie.Need-returns
 unfolding outcome
-returns c = picked _ _ _ (c .if1 .taken)
+returns c = search (answers, tests)
 
 returns-2 : tie.Need-returns-2
 unfolding outcome
-returns-2 c = passed _ _ _ _ (c .before .if1 .left) (picked _ _ _ (eq-eqb _ _ (c .if2 .taken)))
+returns-2 c = search (answers, tests)
 
 bring-requires : tie.Need-bring-requires
 bring-requires c κs =
     let m = c .before .before .before in
     let f = m .before .before .before .before .if1 .left in
     let a = m .before .before .before .before .before .before .before .before .args in
-    let short : Bool = ltb (length (a .image .now)) 22560 in
-    let few : Bool = ltb (length (a .lines .now)) 120 in
+    let short : Bool = ltb (length (a .image .now)) imageOctets in
+    let few : Bool = ltb (length (a .lines .now)) imageLines in
     record {
       fits = fits _ _ (sym (m .before .before .read .ensures) ∙ ap told (m .report .given .1));
-      image = ltb-false _ _ (or-left short few f);
-      lines = ltb-false _ _ (or-right short few f);
+      room = record { pixels = ltb-false _ _ (or-left short few f); lines = ltb-false _ _ (or-right short few f) };
     }
 
 returns-3 : tie.Need-returns-3

@@ -5,7 +5,7 @@ use Rattle.image.proofs.place_line.Statement.{statement}
 use Rattle.image.proofs.place_line.Tie as tie
 
 returns : tie.Need-returns
-returns c = line-held _ _ (c .before .held-otherwise .ensures) (c .if1 .taken)
+returns c = search (line-held, needs)
 
 returns-2 : tie.Need-returns-2
 returns-2 c =

@@ -1,19 +1,20 @@
 -- `lines::lettered` meets its contract.
 use denote.Ref.{now}
-use Rattle.lines.proofs.Lines.{joined, behind-numbers, lined}
+use mathlib.Core.Path.{refl}
+use mathlib.Core.List.{[], _∷_}
+use Rattle.decimal.proofs.Laid.{resaid, joined, put-laid}
+use Rattle.lines.proofs.Lines.{numbers-then}
+use native.Mathlib.Omega.{arith}
 use borrow.Author.Needs.{needs}
 use Rattle.lines.proofs.lettered.Statement.{statement}
 use Rattle.lines.proofs.lettered.Tie as tie
 
 returns : tie.Need-returns
-returns c =
-    let n = c .before .before .before .before .before .before in
-    let l = n .before .before .before .before in
-    let a = l .before .before .before .before .args in
-    lined (search needs) (joined (search needs) (l .letter .ensures) (behind-numbers (now (a .list)) (search needs) (n .numbers .ensures) (c .before .before .number .ensures)))
+returns c = resaid refl (omega (arith, c .before .before .before .before .before .before .before .before .before .before .before .before .before .before .before .pre .1)) (joined (omega (arith, c .before .before .before .before .before .before .before .before .before .before .before .before .before .before .before .pre .0)) (put-laid {text = c .before .before .before .before .before .before .before .before .before .before .before .before .before .before .before .args .x ∷ 32 ∷ []} (omega (arith, c .before .before .before .before .before .before .before .before .before .before .before .before .before .before .before .pre .0)) (c .before .before .before .before .before .before .before .before .before .before .put .ensures)) (numbers-then (now (c .before .before .before .before .before .before .before .before .before .before .before .before .before .before .before .args .list)) (c .before .before .before .before .before .before .before .before .before .before .before .before .before .before .before .args .size) 10 (omega (arith, c .before .before .before .before .before .before .before .before .before .before .before .before .before .before .before .pre .0, c .before .before .before .before .before .before .before .before .before .before .before .before .before .before .before .pre .1, c .before .before .before .before .before .before .before .before .before .before .put .kept .0)) (c .before .before .before .before .before .before .numbers .kept .0) (c .before .before .before .before .before .before .numbers .ensures) (c .before .before .number .ensures)))
 
 pub lettered-spec : {M : Type 1} → statement M
 lettered-spec =
     tie.close
     (tie.spec
-    (λ c κs. search needs) (λ c κs. search needs) (λ c κs. search needs) (λ c. search needs) returns)
+    (λ c. search needs) (λ c. search needs) (λ c κs. search needs) (λ c κs. search needs) (λ c κs. search needs)
+    (λ c. search needs) returns)

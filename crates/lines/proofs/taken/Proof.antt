@@ -4,6 +4,13 @@ use borrow.Author.Needs.{needs}
 use Rattle.lines.proofs.taken.Statement.{statement}
 use Rattle.lines.proofs.taken.Tie as tie
 
-pub taken-spec : {M : Type 1} → statement M
+returns : tie.Need-returns
 unfolding packetLine
-taken-spec = tie.close (tie.spec (λ c. search needs) (λ c κs. search needs) (λ c. search needs) (λ c. c .before .before .lettered .ensures))
+returns c = c .before .before .lettered .ensures
+
+pub taken-spec : {M : Type 1} → statement M
+taken-spec =
+    tie.close
+    (tie.spec
+    (λ c. search needs) (λ c. search needs) (λ c. search needs) (λ c. search needs) (λ c. search needs)
+    (λ c κs. search needs) (λ c. search needs) returns)

@@ -4,6 +4,12 @@ use borrow.Author.Needs.{needs}
 use Rattle.lines.proofs.turned_away.Statement.{statement}
 use Rattle.lines.proofs.turned_away.Tie as tie
 
-pub turned-away-spec : {M : Type 1} → statement M
+returns : tie.Need-returns
 unfolding turnedAwayLine
-turned-away-spec = tie.close (tie.spec (λ c. search needs) (λ c κs. search needs) (λ c. search needs) (λ c. c .before .before .lettered .ensures))
+returns c = c .before .before .lettered .ensures
+
+pub turned-away-spec : {M : Type 1} → statement M
+turned-away-spec =
+    tie.close
+    (tie.spec
+    (λ c. search needs) (λ c κs. search needs) (λ c. search needs) returns)

@@ -2,7 +2,7 @@
 use mathlib.Core.Path.{sym}
 use lib.Seq.{length-take-le}
 use borrow.Author.Needs.{needs}
-use Rattle.packet.specs.Packet.{checkWrong}
+use Rattle.crc.specs.Check.{checkWrong}
 use Rattle.packet.proofs.check_wrong.Statement.{statement}
 use Rattle.packet.proofs.check_wrong.Tie as tie
 

@@ -3,20 +3,20 @@ use native.Mathlib.Omega.{arith}
 use Prim.Native.Nat.{_≤_}
 use mathlib.Core.Path.{refl}
 use borrow.Author.Needs.{needs}
-use borrow.Author.Tests.{lt-ltb, le-ltb}
-use Rattle.octets.proofs.Choices.{picked, passed}
-use Rattle.octets.proofs.Tests.{facts}
+use borrow.Author.Tests.{le-ltb}
+use Rattle.octets.proofs.Choices.{answers, passed}
+use Rattle.octets.proofs.Tests.{tests, facts}
 use Rattle.sequence.specs.Sequence.{outcome}
 use Rattle.sequence.proofs.missing.Statement.{statement}
 use Rattle.sequence.proofs.missing.Tie as tie
 
 returns : tie.Need-returns
 unfolding outcome
-returns c = picked _ _ _ (lt-ltb _ _ (c .if1 .taken))
+returns c = search (answers, tests)
 
 returns-2 : tie.Need-returns-2
 unfolding outcome
-returns-2 c = passed _ _ _ _ (le-ltb _ _ (c .before .before .if1 .left)) (picked _ _ _ (c .if2 .taken))
+returns-2 c = search (answers, tests)
 
 slice-read-entry : tie.Need-slice-read-entry
 slice-read-entry c =
@@ -25,9 +25,7 @@ slice-read-entry c =
 
 returns-3 : tie.Need-returns-3
 unfolding outcome
-returns-3 c =
-    passed _ _ _ _ (le-ltb _ _ (c .before .before .before .before .if1 .left))
-    (passed _ _ _ _ (c .before .before .if2 .left) (picked _ _ _ (lt-ltb _ _ (c .if3 .taken))))
+returns-3 c = search (answers, tests)
 
 add-list : tie.Need-add-list
 add-list c =

@@ -1,6 +1,6 @@
 use mathlib.Core.Path.{sym}
 use lib.Seq.{length-take-le}
-use Rattle.frame.specs.Frame.{checkWrong}
+use Rattle.crc.specs.Check.{checkWrong}
 use borrow.Author.Needs.{needs}
 use Rattle.frame.proofs.reading.check_wrong.Statement.{statement}
 use Rattle.frame.proofs.reading.check_wrong.Tie as tie

@@ -5,8 +5,8 @@ use Rattle.frame.proofs.reading.frame_of.Tie as tie
 
 returns : tie.Need-returns
 returns c =
-    let source = c .before .before .before .before in
-    addressed _ (source .before .before .address-of .ensures) (source .address-of2 .ensures)
+    let source = c .before .before .before .before .before in
+    addressed _ (c .new .ensures) (source .before .before .address-of .ensures) (source .address-of2 .ensures)
 
 pub frame-of-spec : {M : Type 1} → statement M
 frame-of-spec =
@@ -14,4 +14,4 @@ frame-of-spec =
     (tie.spec
     (λ c. search needs) (λ c. search needs) (λ c. search needs) (λ c κs. search needs) (λ c. search needs)
     (λ c. search needs) (λ c. search needs) (λ c κs. search needs) (λ c. search needs) (λ c. search needs)
-    (λ c. search needs) (λ c. search needs) returns)
+    (λ c. search needs) (λ c. search needs) (λ c κs. search needs) returns)

@@ -20,11 +20,10 @@ carried c =
 
 returns : tie.Need-returns
 returns c n =
-    let j = c .before .before .before .before .before .before .before .before in
+    let j = c .before .before .before .before .before .before .before .before .before in
     let a = j .before .before .before .before .before .before .before .before .args in
-    let f = c .before .before .before .before .follow in
-    steps (a .self) (j .before .before .lost .result) (j .if1 .k) (j .if1 .instep) (carried j) n (a .count .0) (a .pointer) (a .«data» .now) (f .result) (a .octets .now) (a .lengths .now)
-    (f .last .1 .1 .1 .1 .1 .1 .0) (f .last .1 .1 .1 .1 .1 .1 .1 .0) (j .before .before .lost .ensures) (f .ensures n)
+    let f = c .before .before .before .before .before .follow in
+    steps (a .self) (j .before .before .lost .result) (j .if1 .k) (j .if1 .instep) (carried j) n (a .count .0) (a .pointer) (a .«data» .now) (f .result) _ _ (j .before .before .lost .ensures) (f .ensures n)
 
 pub heed-spec : {M : Type 1} → statement M
 heed-spec =

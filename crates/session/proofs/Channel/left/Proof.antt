@@ -3,7 +3,8 @@ use borrow.Author.Needs.{needs}
 use mathlib.Core.Path.{ap, _∙_}
 use mathlib.Core.List.{List}
 use Prim.Native.Nat.{ℕ}
-use Rattle.session.specs.Channel.{heldOf, channelOf, stored}
+use Rattle.rules.specs.Channel.{heldOf}
+use Rattle.session.specs.Channel.{channelOf, stored}
 use Rattle.session.proofs.Keeping.{left-all, left-all-short, left-some, left-some-short}
 use Rattle.session.proofs.Channel.left.Statement.{statement}
 use Rattle.session.proofs.Channel.left.Tie as tie

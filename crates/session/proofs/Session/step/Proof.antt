@@ -10,84 +10,129 @@ use Rattle.frame.specs.Frame.{told}
 use Rattle.frame.specs.Back.{Accepted}
 use Rattle.frame.proofs.Accepts.{accepts}
 use Rattle.session.specs.Channel.{fresh, unsound}
-use Rattle.session.specs.Step.{counted}
+use Rattle.session.specs.Lent.{Lent, lent, scant}
+use Rattle.session.specs.Step.{Outcome, counted, outcome, Gives}
+use Rattle.session.specs.Step.{admitted as gate}
+use Rattle.session.specs.declared.Stepped.{Stepped}
 use Rattle.session.proofs.Soundness.{length-mapped, within-list, sound-at}
-use Rattle.session.proofs.Stepping.{gives-accepted, scant, not-sound, used-up, asked, not-read, read}
+use Rattle.session.proofs.Admitting.{Admits, bars-room, bars-session, bars-arrivals, passes, gives-admitted}
+use Rattle.session.proofs.Stepping.{gives-accepted, asked, not-read, read}
 use Rattle.session.proofs.Session.step.Statement.{statement}
 use Rattle.session.proofs.Session.step.Tie as tie
 
--- ---- the refusals
+abbrev room : tie.Start → Lent
+room c = lent (c .args .octets .now) (c .args .lengths .now)
+
+-- ---- the gate
+
+abbrev begun : tie.After-scant → tie.Start
+begun c = c .before .before .before .before .before .before
 
 returns : tie.Need-returns
-returns c = let a = c .before .before .before .before .args in scant (a .t1) (a .frame .now) (a .octets .now) (a .lengths .now) (c .if1 .taken)
+unfolding outcome
+returns c =
+    let s = begun (c .before) in
+    bars-room (s .args .t1) (room s) (through (c .before .scant .ensures) (c .if1 .taken)) _
+
+-- enough is lent, and the session is sound
+lends : (c : tie.Else1) → scant (room (begun (c .before))) ≡ false
+lends c = through (c .before .scant .ensures) (c .if1 .left)
 
 returns-2 : tie.Need-returns-2
+unfolding outcome
 returns-2 c =
-    let a = c .before .before .before .before .before .before .args in
-    not-sound (a .t1) (a .frame .now) (a .octets .now) (a .lengths .now) (c .before .before .if1 .left) (through (c .before .unsound .ensures) (c .if2 .taken))
+    let e = c .before .before in
+    let s = begun (e .before) in
+    bars-session (s .args .t1) (room s) (lends e) (through (c .before .unsound .ensures) (c .if2 .taken)) _
 
--- the session is sound
-sound : (c : tie.Else2) → unsound (c .before .before .before .before .before .before .args .t1) ≡ false
+sound : (c : tie.Else2) → unsound (begun (c .before .before .before) .args .t1) ≡ false
 sound c = through (c .before .unsound .ensures) (c .if2 .left)
 
 returns-3 : tie.Need-returns-3
+unfolding outcome
 returns-3 c =
-    let a = c .before .before .before .before .before .before .before .args in
-    used-up (a .t1) (a .frame .now) (a .octets .now) (a .lengths .now) (c .before .before .before .if1 .left) (sound (c .before)) (c .if3 .taken)
+    let e = c .before .before .before in
+    let s = begun (e .before) in
+    bars-arrivals (s .args .t1) (room s) (lends e) (sound (c .before)) (c .if3 .taken) _
+
+-- a frame that passed it
+abbrev start : tie.Else3 → tie.Start
+start c = begun (c .before .before .before .before)
+
+admitted : (c : tie.Else3) → Admits (start c .args .t1) (room (start c))
+admitted c = passes (start c .args .t1) (room (start c)) (lends (c .before .before .before)) (sound (c .before)) (c .if3 .left)
+
+-- what it gives is what comes of it
+gives : (c : tie.Else3) (o : Outcome) (r : Stepped) (l : Lent) → Gives o r (room (start c)) l → Gives (gate (start c .args .t1) (room (start c)) o) r (room (start c)) l
+gives c = gives-admitted (start c .args .t1) (room (start c)) (lends (c .before .before .before)) (sound (c .before)) (c .if3 .left)
+
+add-self : tie.Need-add-self
+add-self c = let n = admitted c .numbers in search needs
 
 returns-4 : tie.Need-returns-4
+unfolding outcome
 returns-4 c =
     let e = c .before .before .before .before in
-    let a = e .before .before .before .before .before .before .before .args in
-    not-read (a .t1) (a .frame .now) (a .octets .now) (a .lengths .now) (e .before .before .before .if1 .left) (sound (e .before)) (e .if3 .left) (c .before .refusal .given .0 .0)
-    (sym (ap told (c .before .refusal .given .1)) ∙ c .before .before .before .read .ensures)
+    let a = start e .args in
+    gives e _ _ _
+    (not-read (counted (a .t1)) (a .frame .now) (room (start e)) (c .before .refusal .given .0 .0)
+    (sym (ap told (c .before .refusal .given .1)) ∙ c .before .before .before .read .ensures))
 
 -- ---- an accepted frame
 
+abbrev passed : tie.After-struct-known → tie.Else3
+passed c = c .before .before .before .before .before
+
 -- what is known of it
-seen : (c : tie.After-known-told2) → Accepted (c .before .before .before .before .before .before .before .before .before .before .before .args .t1 .t) (c .before .before .before .before .before .before .before .before .before .before .before .args .frame .now) (c .before .f .given .0 .0)
+seen : (c : tie.After-struct-known) → Accepted (start (passed c) .args .t1 .t) (start (passed c) .args .frame .now) (c .before .before .f .given .0 .0)
 seen c =
-    let a = c .before .before .before .before .before .before .before .before .before .before .before .args in
-    accepts (a .t1 .t) (a .frame .now) (c .before .f .given .0 .0) (sym (sym (ap told (c .before .f .given .1)) ∙ c .before .before .before .read .ensures))
+    let a = start (passed c) .args in
+    let f = c .before .before .f .given in
+    accepts (a .t1 .t) (a .frame .now) (f .0 .0) (sym (sym (ap told (f .1)) ∙ c .before .before .before .before .read .ensures))
 
 -- its channel is one of the eight
 low : (c : tie.After-struct-known) → c .before .before .f .given .0 .0 .channel < 8
-low c = let w = seen (c .before) in omega arith
+low c = let w = seen c in omega arith
 
-eight : (c : tie.Else1) → length (c .before .before .before .before .args .t1 .channels) ≡ 8
+eight : (c : tie.Else3) → length (start c .args .t1 .channels) ≡ 8
 eight c = search (needs, length-mapped)
 
-one : (c : tie.After-struct-known) → c .before .before .f .given .0 .0 .channel < length (c .before .before .before .before .before .before .before .before .before .before .before .before .args .t1 .channels)
-one c = omega (arith, eight (c .before .before .before .before .before .before .before .before), low c)
+one : (c : tie.After-struct-known) → c .before .before .f .given .0 .0 .channel < length (start (passed c) .args .t1 .channels)
+one c = omega (arith, eight (passed c), low c)
 
 heed-requires : tie.Need-heed-requires
 heed-requires c κs =
     let d = c .before .before .«data» in
     let w = c .before .before .before .before in
     let f = w .before .before .f .given .0 .0 in
-    let u = sound (w .before .before .before .before .before .before) in
-    let a = w .before .before .before .before .before .before .before .before .before .before .before .before .args in
-    asked (a .t1) (a .frame .now) (a .octets .now) (a .lengths .now) (w .before .before .before .before .before .before .before .before .if1 .left) u f (d .result .now) _ (seen (w .before)) (d .ensures)
-    (sound-at (a .t1) (f .channel) _ (one w) u)
+    let p = admitted (passed w) in
+    let a = start (passed w) .args in
+    asked (a .t1 .t) (a .frame .now) (room (start (passed w))) (p .room) f (d .result .now) _ (seen w) (d .ensures)
+    (sound-at (a .t1) (f .channel) _ (one w) (p .sound))
+
+abbrev known : tie.After-lost → tie.After-struct-known
+known c = c .before .before .before .before .before .before .before .before .before .before .before .before .before
 
 returns-5 : tie.Need-returns-5
+unfolding outcome
 returns-5 c =
     let h = c .before .before .before .before .before .before .before .before .heed in
     let d = c .before .before .before .before .before .before .before .before .before .before .before .«data» in
-    let w = c .before .before .before .before .before .before .before .before .before .before .before .before .before in
+    let w = known c in
     let f = w .before .before .f .given in
-    let e = w .before .before .before .before .before in
-    let a = w .before .before .before .before .before .before .before .before .before .before .before .before .args in
-    read (a .t1) (a .frame .now) (a .octets .now) (a .lengths .now) (e .before .before .before .if1 .left) (sound (e .before)) (e .if3 .left) (f .0 .0) (d .result .now) _
-    (h .last .1 .1 .1 .1 .0) (h .last .1 .1 .1 .1 .1 .0) (sym (ap told (f .1)) ∙ w .before .before .before .before .read .ensures) (d .ensures)
+    let e = passed w in
+    let a = start e .args in
+    gives e _ _ (lent (h .last .1 .1 .1 .1 .0) (h .last .1 .1 .1 .1 .1 .0))
+    (read (counted (a .t1)) (a .frame .now) (room (start e)) (f .0 .0) (d .result .now) _ (lent (h .last .1 .1 .1 .1 .0) (h .last .1 .1 .1 .1 .1 .0))
+    (sym (ap told (f .1)) ∙ w .before .before .before .before .read .ensures) (d .ensures)
     (gives-accepted (counted (a .t1)) (f .0 .0) (d .result .now) (c .lost .result) _ (within-list (a .t1 .channels) (f .0 .0 .channel) _ fresh (one w))
-    (c .lost .ensures) (h .result) (a .octets .now) (a .lengths .now) (h .last .1 .1 .1 .1 .0) (h .last .1 .1 .1 .1 .1 .0)
-    (h .ensures (counted (a .t1) .arrival)))
+    (c .lost .ensures) (h .result) (room (start e)) (lent (h .last .1 .1 .1 .1 .0) (h .last .1 .1 .1 .1 .1 .0)) (h .ensures (counted (a .t1) .arrival))))
 
 pub step-spec : {M : Type 1} → statement M
 step-spec =
     tie.close
     (tie.spec
-    (λ c κs. search needs) (λ c. search needs) (λ c κs. search needs) (λ c. search needs) (λ c. search needs) (λ c. search needs)
-    (λ c. omega (arith, low c)) low (λ c κs. search needs) heed-requires (λ c κs. search needs) (λ c. omega (arith, low (c .before .before .before .before .before .before .before .before .before .before .before .before .before))) (λ c. low (c .before .before .before .before .before .before .before .before .before .before .before .before .before))
-    returns returns-2 returns-3 returns-4 (λ c. search needs) (λ c. search needs) returns-5)
+    (λ c κs. search needs) (λ c κs. search needs) add-self (λ c κs. search needs) (λ c. search needs) (λ c. search needs)
+    (λ c. search needs) (λ c. omega (arith, low c)) low (λ c κs. search needs) heed-requires (λ c κs. search needs) (λ c. omega (arith, low (known c))) (λ c. low (known c))
+    (λ c. search needs) (λ c. search needs) returns (λ c. search needs) (λ c. search needs) returns-2 (λ c. search needs) (λ c. search needs) returns-3
+    (λ c. search needs) (λ c. search needs) returns-4 (λ c. search needs) (λ c. search needs) returns-5)

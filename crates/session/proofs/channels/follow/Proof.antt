@@ -7,6 +7,7 @@ use mathlib.Core.Bool.{Bool, true, false, _&&_}
 use mathlib.Core.Logic.{⊎-elim}
 use lib.ListN.{length}
 use lib.Seq.{length-take-le}
+use Rattle.session.specs.Lent.{lent}
 use Rattle.session.specs.Asked.{Begun}
 use Rattle.session.proofs.Following.{Parts, follows-raw, follows-taken, to-fit, parts-all, parts-none, parts-entered}
 use Rattle.session.proofs.channels.follow.Statement.{statement}
@@ -14,7 +15,7 @@ use Rattle.session.proofs.channels.follow.Tie as tie
 
 -- what is held begins a packet
 begun : (c : tie.Start) → Begun (c .args .held .now) (c .args .«data» .now)
-begun c = let a = c .args in to-fit (a .instep) (a .held .now) (a .pointer) (a .«data» .now) (a .octets .now) (a .lengths .now) (c .pre)
+begun c = let a = c .args in to-fit (a .instep) (a .held .now) (a .pointer) (a .«data» .now) _ (c .pre)
 
 holding-requires : tie.Need-holding-requires
 holding-requires c κs =
@@ -26,7 +27,7 @@ holding-requires c κs =
 returns : tie.Need-returns
 returns c n =
     let a = c .before .before .before .before .before .before .before .args in
-    follows-raw (a .instep) (a .held .now) (a .pointer) (a .«data» .now) n (a .count .0) (a .lost) (a .octets .now) (a .lengths .now) (a .octets .now) (a .lengths .now) (c .holding .result)
+    follows-raw (a .instep) (a .held .now) (a .pointer) (a .«data» .now) n (a .count .0) _ (c .holding .result)
     (c .before .before .if1 .taken) (c .holding .ensures)
 
 -- the test is the definition's
@@ -34,19 +35,19 @@ tested : (i r s b : Bool) → r ≡ s → (i && r) ≡ b → (i && s) ≡ b
 tested i r s b e h = ap (λ (x : Bool). i && x) (sym e) ∙ h
 
 -- what rule 5 is given, whichever way it came
-given : (c : tie.Joined2) → Parts (c .before .before .before .before .before .before .before .args .instep) (c .before .before .before .before .before .before .before .args .held .now) (c .before .before .before .before .before .before .before .args .pointer) (c .before .before .before .before .before .before .before .args .«data» .now) (c .before .before .before .before .before .before .before .args .octets .now) (c .before .before .before .before .before .before .before .args .lengths .now) (c .if2 .k) (c .if2 .at) (c .if2 .on)
+given : (c : tie.Joined2) → Parts (c .before .before .before .before .before .before .before .args .instep) (c .before .before .before .before .before .before .before .args .held .now) (c .before .before .before .before .before .before .before .args .pointer) (c .before .before .before .before .before .before .before .args .«data» .now) (lent (c .before .before .before .before .before .before .before .args .octets .now) (c .before .before .before .before .before .before .before .args .lengths .now)) (c .if2 .k) (c .if2 .at) (c .if2 .on)
 given c =
     let s = c .before .before .before .before .before .before .before in
     let a = s .args in
     let t = c .before .fits2 in
     let n = c .before .before .if1 .left in
     ⊎-elim
-    (λ w. parts-all (a .instep) (a .held .now) (a .pointer) (a .«data» .now) (a .octets .now) (a .lengths .now) (s .pre) (c .if2 .k) (c .if2 .at) (c .if2 .on) n
+    (λ w. parts-all (a .instep) (a .held .now) (a .pointer) (a .«data» .now) _ (s .pre) (c .if2 .k) (c .if2 .at) (c .if2 .on) n
     (tested (a .instep) (t .result) _ true (t .ensures) (w .0 .taken)) (w .1) (w .2) (w .3))
     (⊎-elim
-    (λ w. parts-none (a .instep) (a .held .now) (a .pointer) (a .«data» .now) (a .octets .now) (a .lengths .now) (s .pre) (c .if2 .k) (c .if2 .at) (c .if2 .on) n
+    (λ w. parts-none (a .instep) (a .held .now) (a .pointer) (a .«data» .now) _ (s .pre) (c .if2 .k) (c .if2 .at) (c .if2 .on) n
     (tested (a .instep) (t .result) _ false (t .ensures) (w .0 .left)) (w .2) (w .1 .taken) (w .3) (w .4))
-    (λ w. parts-entered (a .instep) (a .held .now) (a .pointer) (a .«data» .now) (a .octets .now) (a .lengths .now) (s .pre) (c .if2 .k) (c .if2 .at) (c .if2 .on) n
+    (λ w. parts-entered (a .instep) (a .held .now) (a .pointer) (a .«data» .now) _ (s .pre) (c .if2 .k) (c .if2 .at) (c .if2 .on) n
     (tested (a .instep) (t .result) _ false (t .ensures) (w .0 .left)) (w .2) (w .1 .left) (w .3) (w .4)))
     (c .if2 .came)
 
@@ -55,7 +56,7 @@ returns-2 c n =
     let t = c .before .before .before .before .take in
     let j = c .before .before .before .before .before .before .before .before .before .before in
     let a = j .before .before .before .before .before .before .before .args in
-    follows-taken (a .instep) (a .held .now) (a .pointer) (a .«data» .now) n (a .count .0) (a .lost) (a .octets .now) (a .lengths .now) (t .last .1 .1 .1 .1 .1 .0) (t .last .1 .1 .1 .1 .1 .1 .0)
+    follows-taken (a .instep) (a .held .now) (a .pointer) (a .«data» .now) n (a .count .0) _ _
     (j .if2 .k) (j .if2 .at) (j .if2 .on) (t .result) (given j) (t .ensures n)
 
 pub follow-spec : {M : Type 1} → statement M

@@ -29,7 +29,7 @@ returns c n =
     let s = c .before .before .before .before .before .before .before .before .before .before .before .before .before .before .before in
     let a = s .args in
     takes (a .held .now) (a .«data» .now) (a .octets .now) (a .lengths .now) (s .pre) (k .result) (k .last .1 .1 .0) (k .ensures)
-    n (a .count .0) (a .lost) (a .on) (h .last .1 .1 .1 .0) (h .ensures) (c .before .left .result) (c .before .left .ensures)
+    n (a .count .0) (a .on) (h .last .1 .1 .1 .0) (h .ensures) (c .before .left .result) (c .before .left .ensures)
 
 pub take-spec : {M : Type 1} → statement M
 take-spec =

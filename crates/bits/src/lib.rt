@@ -1,0 +1,1 @@
+// Rows of bits, and the order of a number's bits. Definitions and laws only.

@@ -1,0 +1,92 @@
+-- `listing::Lister::next` meets its contract.
+use Prim.Native.Nat.{_-_}
+use mathlib.Core.Path.{_≡_}
+use lib.ListN.{length}
+use Rattle.listing.proofs.Handed.{few-packets, packets-there, frame-text, stepped-session}
+use Rattle.listing.proofs.Sofar.{Sofar, none-yet, turn-inside, less-header, less-nothing, less-frame, small-t, frame-from, frame-to, fits, on-header, on-nothing, on-frame, stop-missing, stop-over, stop-bad, stop-full}
+use native.Mathlib.Omega.{arith}
+use borrow.Author.Needs.{needs}
+use Rattle.listing.proofs.Lister.next.Statement.{statement}
+use Rattle.listing.proofs.Lister.next.Tie as tie
+
+abbrev Inv-loop : tie.InvT-loop
+Inv-loop window out₀ octets₀ lengths₀ reader₀ session₀ at₀ size₀ out octets lengths reader session at size =
+    Sofar reader₀ session₀ window out₀ out reader session at size × (length octets ≡ 501) × (length lengths ≡ 16)
+
+abbrev μ-loop : tie.MeasureT-loop
+μ-loop window out₀ octets₀ lengths₀ reader₀ session₀ at₀ size₀ out octets lengths reader session at size =
+    length window - at
+
+loop-holds : tie.Need-loop-holds Inv-loop μ-loop
+loop-holds c = (none-yet _ _ _ _, search needs, search needs)
+
+add-behind : tie.Need-add-behind Inv-loop μ-loop
+add-behind c = omega (arith, turn-inside (c .before .before .before .before .loop .inv .0) (c .before .scan .ensures))
+
+returns : tie.Need-returns Inv-loop μ-loop
+returns c = stop-missing (c .before .before .before .before .before .before .before .before .loop .inv .0) (c .before .before .before .before .before .scan .ensures) (c .before .before .before .before .before .before .before .loop-test .taken) (c .before .before .taken .given .1) (c .stopped .ensures)
+
+returns-2 : tie.Need-returns-2 Inv-loop μ-loop
+returns-2 c = stop-over (c .before .before .before .before .before .before .before .loop .inv .0) (c .before .before .before .before .scan .ensures) (c .before .before .before .before .before .before .loop-test .taken) (c .before .enum-told .given .1) (c .stopped2 .ensures)
+
+returns-3 : tie.Need-returns-3 Inv-loop μ-loop
+returns-3 c = stop-bad (c .before .before .before .before .before .before .before .before .before .before .before .loop .inv .0) (c .before .before .before .before .before .before .before .before .scan .ensures) (c .before .before .before .before .before .before .before .before .before .before .loop-test .taken) (c .before .before .before .before .before .enum-told2 .given .1) (c .before .before .before .bad-line .ensures) (c .stopped3 .ensures)
+
+cast-open : tie.Need-cast-open Inv-loop μ-loop
+cast-open c = omega (arith, small-t (c .before .before .before .before .before .before .before .loop .inv .0) (c .before .before .before .before .scan .ensures) (c .before .taken2 .given .1))
+
+loop-less : tie.Need-loop-less Inv-loop μ-loop
+loop-less c = less-header (c .before .before .before .before .before .before .before .before .before .before .before .before .before .loop .inv .0) (c .before .before .before .before .before .before .before .before .before .before .scan .ensures) (c .before .before .before .before .before .before .before .taken2 .given .1)
+
+loop-again : tie.Need-loop-again Inv-loop μ-loop
+loop-again c = (on-header (c .before .before .before .before .before .before .before .before .before .before .before .before .before .loop .inv .0) (c .before .before .before .before .before .before .before .before .before .before .scan .ensures) (c .before .before .before .before .before .before .before .before .before .before .before .before .loop-test .taken) (c .before .before .before .before .before .before .before .taken2 .given .1) (c .before .before .header-line .ensures) (c .before .before .header-line .kept .0) (c .before .before .before .before .before .«open» .ensures .session), c .before .before .before .before .before .before .before .before .before .before .before .before .before .loop .inv .1, c .before .before .before .before .before .before .before .before .before .before .before .before .before .loop .inv .2)
+
+loop-less-2 : tie.Need-loop-less-2 Inv-loop μ-loop
+loop-less-2 c = less-nothing (c .before .before .before .before .before .before .loop .inv .0) (c .before .before .before .scan .ensures) (c .enum-told3 .given .1)
+
+loop-again-2 : tie.Need-loop-again-2 Inv-loop μ-loop
+loop-again-2 c = (on-nothing (c .before .before .before .before .before .before .loop .inv .0) (c .before .before .before .scan .ensures) (c .before .before .before .before .before .loop-test .taken) (c .enum-told3 .given .1), c .before .before .before .before .before .before .loop .inv .1, c .before .before .before .before .before .before .loop .inv .2)
+
+add-first : tie.Need-add-first Inv-loop μ-loop
+add-first c = omega (arith, frame-from (c .before .before .before .before .before .before .before .loop .inv .0) (c .before .before .before .before .scan .ensures) (c .before .taken3 .given .1), frame-to (c .before .before .before .before .before .before .before .loop .inv .0) (c .before .before .before .before .scan .ensures) (c .before .taken3 .given .1))
+
+add-last : tie.Need-add-last Inv-loop μ-loop
+add-last c = omega (arith, frame-from (c .before .before .before .before .before .before .before .loop .inv .0) (c .before .before .before .before .scan .ensures) (c .before .taken3 .given .1), frame-to (c .before .before .before .before .before .before .before .loop .inv .0) (c .before .before .before .before .scan .ensures) (c .before .taken3 .given .1))
+
+sub-step : tie.Need-sub-step Inv-loop μ-loop
+sub-step c = omega (arith, frame-from (c .before .before .before .before .before .before .before .loop .inv .0) (c .before .before .before .before .scan .ensures) (c .before .taken3 .given .1), frame-to (c .before .before .before .before .before .before .before .loop .inv .0) (c .before .before .before .before .scan .ensures) (c .before .taken3 .given .1))
+
+part-step-start : tie.Need-part-step-start Inv-loop μ-loop
+part-step-start c = omega (arith, frame-from (c .before .before .before .before .before .before .before .loop .inv .0) (c .before .before .before .before .scan .ensures) (c .before .taken3 .given .1), frame-to (c .before .before .before .before .before .before .before .loop .inv .0) (c .before .before .before .before .scan .ensures) (c .before .taken3 .given .1))
+
+part-step-end : tie.Need-part-step-end Inv-loop μ-loop
+part-step-end c = omega (arith, frame-from (c .before .before .before .before .before .before .before .loop .inv .0) (c .before .before .before .before .scan .ensures) (c .before .taken3 .given .1), frame-to (c .before .before .before .before .before .before .before .loop .inv .0) (c .before .before .before .before .scan .ensures) (c .before .taken3 .given .1))
+
+frame-lines-requires : tie.Need-frame-lines-requires Inv-loop μ-loop
+frame-lines-requires c κs = (fits (c .before .before .before .before .before .before .before .before .before .before .before .before .before .before .before .before .before .loop .inv .0) (c .before .before .before .before .before .before .before .before .before .before .before .before .before .before .scan .ensures) (c .before .before .before .before .before .before .before .before .before .before .before .before .before .before .before .before .loop-test .taken), (few-packets (c .before .before .before .before .before .before .before .before .before .before .before .before .before .before .before .before .before .loop .session) _ (c .before .before .before .before .before .before .before .before .before .before .before .before .before .before .before .before .before .loop .inv .1) (c .before .before .before .before .before .before .before .before .before .before .before .before .before .before .before .before .before .loop .inv .2) (c .before .before .before .before .before .before .step .ensures), (search needs, packets-there (c .before .before .before .before .before .before .before .before .before .before .before .before .before .before .before .before .before .loop .session) _ (c .before .before .before .before .before .before .before .before .before .before .before .before .before .before .before .before .before .loop .inv .1) (c .before .before .before .before .before .before .before .before .before .before .before .before .before .before .before .before .before .loop .inv .2) (c .before .before .before .before .before .before .step .ensures))))
+
+loop-less-3 : tie.Need-loop-less-3 Inv-loop μ-loop
+loop-less-3 c = less-frame (c .before .before .before .before .before .before .before .before .before .before .before .before .before .before .before .before .before .before .before .before .loop .inv .0) (c .before .before .before .before .before .before .before .before .before .before .before .before .before .before .before .before .before .scan .ensures) (c .before .before .before .before .before .before .before .before .before .before .before .before .before .before .taken3 .given .1)
+
+loop-again-3 : tie.Need-loop-again-3 Inv-loop μ-loop
+loop-again-3 c = (
+  on-frame (c .before .before .before .before .before .before .before .before .before .before .before .before .before .before .before .before .before .before .before .before .loop .inv .0) (c .before .before .before .before .before .before .before .before .before .before .before .before .before .before .before .before .before .scan .ensures) (c .before .before .before .before .before .before .before .before .before .before .before .before .before .before .before .before .before .before .before .loop-test .taken) (c .before .before .before .before .before .before .before .before .before .before .before .before .before .before .taken3 .given .1) (c .before .before .frame-lines .ensures) (c .before .before .frame-lines .kept .0) (frame-text (c .before .before .before .before .before .before .before .before .before .before .before .before .before .before .before .before .before .before .before .before .loop .session) _ (c .before .before .before .before .before .before .before .before .before .before .before .before .before .before .before .before .before .before .before .before .loop .inv .1) (c .before .before .before .before .before .before .before .before .before .before .before .before .before .before .before .before .before .before .before .before .loop .inv .2) (c .before .before .before .before .before .before .before .before .before .step .ensures)) (stepped-session (c .before .before .before .before .before .before .before .before .before .before .before .before .before .before .before .before .before .before .before .before .loop .session) _ (c .before .before .before .before .before .before .before .before .before .before .before .before .before .before .before .before .before .before .before .before .loop .inv .1) (c .before .before .before .before .before .before .before .before .before .before .before .before .before .before .before .before .before .before .before .before .loop .inv .2) (c .before .before .before .before .before .before .before .before .before .step .ensures)),
+  search needs,
+  search needs,
+)
+
+returns-4 : tie.Need-returns-4 Inv-loop μ-loop
+returns-4 c = stop-full (c .before .before .loop .inv .0) (c .before .loop-test .left) (c .stopped4 .ensures)
+
+pub next-spec : {M : Type 1} → statement M
+next-spec =
+    tie.close
+    (tie.spec
+    Inv-loop μ-loop loop-holds (λ c. search needs) (λ c. search needs) (λ c. search needs) (λ c. search needs)
+    (λ c κs. search needs) add-behind (λ c. search needs) (λ c κs. search needs) (λ c. search needs) returns
+    (λ c. search needs) (λ c κs. search needs) (λ c. search needs) returns-2 (λ c. search needs)
+    (λ c κs. search needs) (λ c κs. search needs) (λ c. search needs) returns-3 (λ c. search needs) cast-open
+    (λ c κs. search needs) (λ c κs. search needs) loop-less loop-again (λ c. search needs) loop-less-2 loop-again-2
+    (λ c. search needs) add-first add-last sub-step part-step-start part-step-end (λ c. search needs)
+    (λ c. search needs) (λ c κs. search needs) (λ c. search needs) (λ c. search needs) frame-lines-requires
+    loop-less-3 loop-again-3 (λ c κs. search needs) (λ c. search needs) returns-4)

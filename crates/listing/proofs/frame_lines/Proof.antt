@@ -1,0 +1,43 @@
+-- `listing::frame_lines` meets its contract.
+use Prim.Native.Nat.{ℕ, _≤_}
+use mathlib.Core.Path.{_≡_, subst, sym}
+use lib.ListN.{length, take}
+use denote.Ref.{now}
+use Rattle.session.specs.Step.{told}
+use Rattle.listing.specs.Contracts.{total}
+use Rattle.listing.proofs.Packets.{told-packets, line-laid, with-packets, without-packets}
+use native.Mathlib.Omega.{arith}
+use borrow.Author.Needs.{needs}
+use Rattle.listing.proofs.frame_lines.Statement.{statement}
+use Rattle.listing.proofs.frame_lines.Tie as tie
+
+-- how many packets there are
+many : (c : tie.After-wide) → c .wide .result ≡ told (c .before .before .before .before .before .before .before .before .before .before .before .before .args .answer) .fields .packets
+many c = told-packets (c .before .before .before .answer .given .1) (c .wide .ensures)
+
+packet-lines-requires : tie.Need-packet-lines-requires
+packet-lines-requires c κs =
+    let l = c .before .before .before .before .before .before .before .answer-line in
+    let s = c .before .before .before .before .before .before .before .before .before .before .before .before in
+    let few : c .wide .result ≤ 16 = omega (arith, many c, s .pre .1 .0) in
+    (omega (arith, line-laid (s .args .answer) (s .args .arrival) (now (s .args .octets)) (now (s .args .lengths)) (omega (arith, s .pre .0)) (l .ensures) .near, l .kept .0, s .pre .0), (few, (s .pre .1 .1 .0, subst (λ (n : ℕ). total (take n (now (s .args .lengths))) ≤ length (now (s .args .octets))) (sym (many c)) (s .pre .1 .1 .1))))
+
+returns : tie.Need-returns
+returns c =
+    let w = c .before .before .before in
+    let l = w .before .before .before .before .before .before .before .answer-line in
+    let s = w .before .before .before .before .before .before .before .before .before .before .before .before in
+    with-packets (s .args .answer) (s .args .arrival) (now (s .args .octets)) (now (s .args .lengths)) (omega (arith, s .pre .0)) (l .ensures) (many w) (omega (arith, many w, s .pre .1 .0)) (c .before .before .packet-lines .ensures)
+
+returns-2 : tie.Need-returns-2
+returns-2 c =
+    let l = c .before .before .before .before .answer-line in
+    let s = c .before .before .before .before .before .before .before .before .before in
+    without-packets (s .args .answer) (s .args .arrival) (now (s .args .octets)) (now (s .args .lengths)) (omega (arith, s .pre .0)) (l .ensures) (c .enum-told .given .1)
+
+pub frame-lines-spec : {M : Type 1} → statement M
+frame-lines-spec =
+    tie.close
+    (tie.spec
+    (λ c κs. search needs) (λ c. search needs) (λ c κs. search needs) packet-lines-requires (λ c. search needs)
+    (λ c. search needs) returns (λ c. search needs) returns-2)

@@ -1,0 +1,4 @@
+pub mod Contracts
+pub mod Listing
+pub mod Next
+pub mod Whole

@@ -1,0 +1,98 @@
+-- Laws of the gate: refusals 1, 4 and 3.
+use Prim.Native.Nat.{ℕ}
+use native.Mathlib.Omega.{arith}
+use mathlib.Core.Path.{_≡_, refl, sym, ap, _∙_, subst}
+use mathlib.Core.Bool.{Bool, true, false, true≢false}
+use lib.Dec.{eqb}
+use borrow.Author.Tests.{eq-eqb, ne-eqb, eqb-true, eqb-false}
+use Rattle.octets.specs.Pick.{pick}
+use Rattle.octets.proofs.Choices.{picks, picked, passed, not-picked}
+use Rattle.answer.specs.Refusals as no
+use Rattle.rules.specs.Limits.{lastNumber}
+use Rattle.session.specs.Channel.{unsound}
+use Rattle.session.specs.Lent.{Lent, scant, Enough}
+use Rattle.session.specs.Step.{Outcome, refused, barred, admitted, Gives}
+use Rattle.session.specs.declared.Session.{Session}
+use Rattle.session.specs.declared.Stepped.{Stepped}
+use Rattle.session.specs.declared.StepAnswer.the-variants as answer
+use Rattle.session.proofs.Lending.{enough, not-scant}
+
+-- what is known where none of them holds
+pub record Admits (s : Session) (l : Lent) : Type 0 where
+  pub room : Enough l
+  pub sound : unsound s ≡ false
+  pub numbers : s .arrival ≡ lastNumber → ⊥
+
+pub admits : (s : Session) (l : Lent) → barred s l ≡ 0 → Admits s l
+unfolding barred
+admits s l e =
+    let h₁ = not-picked (scant l) no.room _ 0 e (λ z. omega arith) in
+    let h₂ = not-picked (unsound s) no.session _ 0 (h₁ .1) (λ z. omega arith) in
+    let h₃ = not-picked (eqb (s .arrival) lastNumber) no.arrivals 0 0 (h₂ .1) (λ z. omega arith) in
+    record { room = enough l (h₁ .0); sound = h₂ .0; numbers = eqb-false _ _ (h₃ .0) }
+
+-- what holds of each refusal, and of o where it is reached, holds of what comes of it
+pub admitted-picks : (P : Outcome → Type 0) (s : Session) (l : Lent) (o : Outcome) → (Admits s l → P o) → ((n : ℕ) → n ≡ barred s l → P (refused s n))
+    → P (admitted s l o)
+admitted-picks P s l o p q = picks P (eqb (barred s l) 0) o _ (λ e. p (admits s l (eqb-true _ _ e))) (λ e. q (barred s l) refl)
+
+-- a sound session is not barred with 4
+pub not-four : (s : Session) (l : Lent) → unsound s ≡ false → barred s l ≡ no.session → ⊥
+unfolding barred
+not-four s l u =
+    picks (λ (n : ℕ). n ≡ no.session → ⊥) (scant l) no.room _ (λ e h. omega arith)
+    (λ e. picks (λ (n : ℕ). n ≡ no.session → ⊥) (unsound s) no.session _ (λ e h. absurd (true≢false (sym e ∙ u)))
+    (λ e. picks (λ (n : ℕ). n ≡ no.session → ⊥) (eqb (s .arrival) lastNumber) no.arrivals 0 (λ e h. omega arith) (λ e h. omega arith)))
+
+-- with enough lent, a sound session refuses with 3 alone
+pub roomy : (s : Session) (l : Lent) (o : Outcome) → Enough l → unsound s ≡ false
+    → admitted s l o ≡ pick (eqb (s .arrival) lastNumber) (refused s no.arrivals) o
+unfolding barred pick
+roomy s l o k u = go (eqb (s .arrival) lastNumber) refl
+  where
+    go : (b : Bool) → eqb (s .arrival) lastNumber ≡ b → admitted s l o ≡ pick b (refused s no.arrivals) o
+    go true e = rw (not-scant l k, u, e)
+    go false e = rw (not-scant l k, u, e)
+
+-- ---- what is given
+
+abbrev pub turnedDown : Session → ℕ → Stepped
+turnedDown s n = record { session = s; answer = answer.Refused n }
+
+pub gives-refused : (s : Session) (n : ℕ) (l : Lent) → Gives (refused s n) (turnedDown s n) l l
+gives-refused s n l = record { session = refl; answers = refl; leaves = refl }
+
+module _ (s : Session) (l : Lent) where
+  barring : (n : ℕ) → n ≡ barred s l → (n ≡ 0 → ⊥) → (o : Outcome) → Gives (admitted s l o) (turnedDown s n) l l
+  barring n e z o =
+      let no : eqb (barred s l) 0 ≡ false = ne-eqb (barred s l) 0 (λ h. z (e ∙ h)) in
+      subst (λ (x : Outcome). Gives x (turnedDown s n) l l)
+      (passed (eqb (barred s l) 0) o (refused s (barred s l)) (refused s n) no (ap (refused s) e)) (gives-refused s n l)
+
+  -- refusal 1
+  pub bars-room : scant l ≡ true → (o : Outcome) → Gives (admitted s l o) (turnedDown s no.room) l l
+  unfolding barred
+  bars-room h = barring no.room (picked _ _ _ h) (λ z. omega arith)
+
+  module _ (h : scant l ≡ false) where
+    -- refusal 4
+    pub bars-session : unsound s ≡ true → (o : Outcome) → Gives (admitted s l o) (turnedDown s no.session) l l
+    unfolding barred
+    bars-session u = barring no.session (passed _ _ _ _ h (picked _ _ _ u)) (λ z. omega arith)
+
+    module _ (u : unsound s ≡ false) where
+      -- refusal 3
+      pub bars-arrivals : s .arrival ≡ lastNumber → (o : Outcome) → Gives (admitted s l o) (turnedDown s no.arrivals) l l
+      unfolding barred
+      bars-arrivals e =
+          barring no.arrivals (passed _ _ _ _ h (passed _ _ _ _ u (picked _ _ _ (eq-eqb _ _ e)))) (λ z. omega arith)
+
+      module _ (n : s .arrival ≡ lastNumber → ⊥) where
+        pub passes : Admits s l
+        passes = record { room = enough l h; sound = u; numbers = n }
+
+        pub gives-admitted : (o : Outcome) (r : Stepped) (l′ : Lent) → Gives o r l l′ → Gives (admitted s l o) r l l′
+        unfolding barred
+        gives-admitted o r l′ g =
+            let none : barred s l ≡ 0 = sym (passed _ _ _ _ h (passed _ _ _ _ u (passed _ _ _ _ (ne-eqb _ _ n) refl))) in
+            subst (λ (x : Outcome). Gives x r l l′) (picked (eqb (barred s l) 0) o (refused s (barred s l)) (eq-eqb (barred s l) 0 none)) g

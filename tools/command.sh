@@ -1,0 +1,139 @@
+# What the commands share, sourced by each (POSIX sh): the test of what is given, the build, the run of a proved program.
+# Before it, the command sets name (the program's) and here (the checkout). Exit status: 0 all done; 1 an error told on standard error;
+# 2 bad usage, or not built; 141 the reader of standard output went away; 129, 130, 143 stopped by HUP, INT, TERM.
+# shellcheck disable=SC2154,SC2015
+
+room='' children=''
+
+# Says a line on standard error.
+say() { printf '%s: %s\n' "$name" "$*" >&2; }
+
+# Says why, and ends with the status.
+stop() {
+    stop_status=$1
+    shift
+    say "$@"
+    exit "$stop_status"
+}
+
+# At a signal: the children and the temporary folder go, and then this shell by the same signal.
+stopped() {
+    trap '' HUP INT TERM
+    # shellcheck disable=SC2086
+    [ -z "$children" ] || kill -s TERM -- $children 2>/dev/null
+    wait 2>/dev/null
+    rm -rf "$room"
+    trap - EXIT "$1"
+    kill -s "$1" "$$"
+}
+
+# Standard output must be open; a closed standard error takes nothing.
+outputs() {
+    (true 3>&2) || exec 2>/dev/null
+    (true 3>&1) 2>/dev/null || stop 1 "standard output is closed"
+}
+
+# What is to be read: a file, or standard input for - and for nothing.
+given() {
+    file=$1
+    if [ "$file" = - ]; then
+        (true 3<&0) 2>/dev/null || stop 1 "standard input is closed"
+        exec 3<&0
+        return
+    fi
+    [ -e "$file" ] || stop 1 "$file: there is no such file"
+    [ ! -d "$file" ] || stop 1 "$file is a folder"
+    [ -r "$file" ] || stop 1 "$file cannot be read"
+}
+
+# Passes on what of the build's lines tells how far it is, and keeps them all.
+progress() {
+    while IFS= read -r line; do
+        printf '%s\n' "$line" >&3
+        case $line in
+        'rt: '*unchanged*) ;;
+        'rt: '*' proved ('*) say "${line#rt: }" ;;
+        esac
+    done 3>"$room/log"
+}
+
+# True if no file that a proof rests on has changed since the program was last built here, with the same kit.
+unchanged() {
+    [ -x "$target/bin/$name" ] && [ "$(cat "$target/$name.built" 2>/dev/null)" = "$kit_id" ] &&
+        [ -z "$(find "$here/crates" "$here/crates.txt" -cnewer "$target/$name.built" 2>&1 | head -n 1)" ]
+}
+
+# Proves and builds the program where that is needed.
+build() {
+    command -v rt >/dev/null || stop 2 "rt is not on PATH: install the Rattle kit first"
+    kit_id=$(rt version) && kit=$(rt doc) && kit=$(CDPATH='' cd -- "$(dirname "$kit")/.." && pwd -P) || stop 2 "rt does not work"
+    target=$here/target
+    ! unchanged || return 0
+    if [ ! -x "$target/bin/$name" ]; then
+        mkdir -p "$target" 2>/dev/null && [ -w "$target" ] || stop 2 "not built yet, and $here cannot be written: who owns it builds it once"
+        rm -f "$target/stamp/$name"
+        say "proving and building, once, some minutes"
+    fi
+    printf '%s\n' "$kit_id" >"$room/built"
+    # A process group of its own, so that all of it ends at a signal.
+    alone=$(command -v setsid)
+    progress <"$room/lines" &
+    children=$!
+    (cd "$here" && TMPDIR=$room && export TMPDIR && exec $alone rt check "$name") >"$room/lines" 2>&1 </dev/null &
+    children="$children ${alone:+-}$!"
+    wait "$!"
+    built=$?
+    wait
+    children=''
+    [ "$built" -eq 0 ] && [ -x "$target/bin/$name" ] || { tail -n 20 "$room/log" >&2; stop 2 "not built"; }
+    mv -f "$room/built" "$target/$name.built" 2>/dev/null || :
+}
+
+# Passes on at once what the program says on standard error, and remembers that it did.
+heard() {
+    while IFS= read -r line || [ -n "$line" ]; do
+        : >"$room/said"
+        printf '%s\n' "$line" >&2
+    done
+}
+
+# Runs the program on what is given, its words behind it, under the kit's loader, and on Arm under its emulator.
+run() {
+    tools=$kit/on/$(uname -m)/toolchain
+    set -- "$tools/lib/ld-linux-x86-64.so.2" --library-path "$tools/lib" "$target/bin/$name" "$@"
+    # Without erms: the emulator works such copies octet by octet.
+    [ ! -x "$tools/bin/qemu-x86_64" ] || set -- "$tools/bin/qemu-x86_64" -cpu max,-erms "$@"
+    heard <"$room/lines" &
+    children=$!
+    if [ "$file" = - ]; then
+        [ ! -t 3 ] || say "waiting for a recording on standard input ($name --help tells more)"
+        "$@" 2>"$room/lines" <&3 &
+    else
+        "$@" 2>"$room/lines" <"$file" &
+    fi
+    children="$children $!"
+    wait "$!" 2>/dev/null
+    ended=$?
+    wait
+    children=''
+    case $ended in
+    0) [ ! -e "$room/said" ] ;;
+    141) return 141 ;;
+    *) [ -e "$room/said" ] || say "the program ended with status $ended"; return 1 ;;
+    esac
+}
+
+# The whole command: run the program on a file, with the words behind it.
+command_over() {
+    given "$1"
+    shift
+    trap 'rm -rf "$room"' EXIT
+    trap 'stopped HUP' HUP
+    trap 'stopped INT' INT
+    trap 'stopped TERM' TERM
+    room=$(mktemp -d) || exit 2
+    # The build runs the program as another user, in a folder of its own below this one.
+    chmod 711 "$room" && mkfifo "$room/lines" || exit 2
+    build
+    run "$@"
+}
