@@ -1,4 +1,4 @@
--- Document 01, 'Numbers given when something is turned away', in its order.
+-- Document 01, 'Numbers given when something is turned away', in its order; then document 02's.
 use Prim.Native.Nat.{ℕ}
 
 -- Under 501 octets or under 16 lengths lent.
@@ -104,3 +104,19 @@ outputShort = 50
 -- Writer: a field out of range.
 abbrev pub fieldRange : ℕ
 fieldRange = 51
+
+-- A layout's code unknown, or the layout empty or above 64.
+abbrev pub layoutCodes : ℕ
+layoutCodes = 60
+
+-- Layout not a whole number of octets.
+abbrev pub layoutWidth : ℕ
+layoutWidth = 61
+
+-- The parameters aren't one or more whole sequences.
+abbrev pub sequences : ℕ
+sequences = 62
+
+-- Readings: not (3,25).
+abbrev pub notHousekeeping : ℕ
+notHousekeeping = 63

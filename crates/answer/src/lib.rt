@@ -58,6 +58,15 @@ pub const OUTPUT_SHORT: u16 = 50;
 // Writer: a field out of range.
 pub const FIELD_RANGE: u16 = 51;
 
+// A layout's code unknown, or the layout empty or above 64.
+pub const LAYOUT_CODES: u16 = 60;
+// Layout not a whole number of octets.
+pub const LAYOUT_WIDTH: u16 = 61;
+// The parameters aren't one or more whole sequences.
+pub const SEQUENCES: u16 = 62;
+// Readings: not (3,25).
+pub const NOT_HOUSEKEEPING: u16 = 63;
+
 // What a writer answers: how many octets it wrote, or the refusal's number.
 pub enum Written {
     Length(usize),

@@ -1,2 +1,5 @@
+pub mod Field
+pub mod High
 pub mod Numbers
 pub mod Rows
+pub mod Signed

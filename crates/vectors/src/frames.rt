@@ -1,7 +1,7 @@
 // The frame reader and writer.
-use crate::fields;
 use crate::input;
 use crate::packets;
+use crate::places;
 use crate::text;
 use counts::ChannelCount;
 use counts::MasterCount;
@@ -37,8 +37,8 @@ fn print(f: Frame) {
 }
 
 pub(crate) fn read(c: &[u8]) {
-    let t = input::octet(c, fields::T);
-    let octets = input::block(c, fields::INPUT);
+    let t = input::octet(c, places::T);
+    let octets = input::block(c, places::INPUT);
     match Frame::read(t, octets) {
         FrameRead::Frame(f) => {
             print(f);
@@ -60,24 +60,24 @@ fn station(s: &[u8], ssid: u8) -> Address {
 
 pub(crate) fn write(c: &[u8], out: &mut [u8]) {
     let destination = station(
-        input::block(c, fields::DESTINATION),
-        input::octet(c, fields::DESTINATION_SSID),
+        input::block(c, places::DESTINATION),
+        input::octet(c, places::DESTINATION_SSID),
     );
     let source = station(
-        input::block(c, fields::SOURCE),
-        input::octet(c, fields::SOURCE_SSID),
+        input::block(c, places::SOURCE),
+        input::octet(c, places::SOURCE_SSID),
     );
     let f = Frame::new(
         destination,
         source,
-        input::octet(c, fields::CHANNEL),
-        MasterCount(input::octet(c, fields::MASTER)),
-        ChannelCount(input::octet(c, fields::COUNT)),
-        input::octet(c, fields::POINTER),
-        input::octet(c, fields::TELECOMMANDS),
-        input::number(c, fields::LENGTH) as usize,
+        input::octet(c, places::CHANNEL),
+        MasterCount(input::octet(c, places::MASTER)),
+        ChannelCount(input::octet(c, places::COUNT)),
+        input::octet(c, places::POINTER),
+        input::octet(c, places::TELECOMMANDS),
+        input::eight(c, places::LENGTH) as usize,
     );
-    let data = input::block(c, fields::INPUT);
-    let time = input::block(c, fields::STAMP);
-    packets::written(f.write(input::octet(c, fields::T), data, time, out), out);
+    let data = input::block(c, places::INPUT);
+    let time = input::block(c, places::STAMP);
+    packets::written(f.write(input::octet(c, places::T), data, time, out), out);
 }

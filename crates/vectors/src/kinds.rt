@@ -19,8 +19,12 @@ pub(crate) const REPORT_READER: u8 = 9;
 
 pub(crate) const REPORT_WRITER: u8 = 10;
 
-pub(crate) const SESSION_OPEN: u8 = 11;
+pub(crate) const HOUSEKEEPING_READER: u8 = 11;
 
-pub(crate) const SESSION: u8 = 12;
+pub(crate) const HOUSEKEEPING_WRITER: u8 = 12;
 
-pub(crate) const SESSION_STEP: u8 = 13;
+pub(crate) const SESSION_OPEN: u8 = 13;
+
+pub(crate) const SESSION: u8 = 14;
+
+pub(crate) const SESSION_STEP: u8 = 15;

@@ -1,6 +1,6 @@
 // The sequence gap, and placing a line: calls on lent lists, which are printed whole.
-use crate::fields;
 use crate::input;
+use crate::places;
 use crate::text;
 use counts::SequenceCount;
 use image::Placed;
@@ -15,13 +15,13 @@ fn enter(list: &mut [u16], place: usize, entry: u16) {
 
 // The sequence gap, with the entry of the APID put into the list before.
 pub(crate) fn missing(c: &[u8], list: &mut [u16]) {
-    let apid = input::word(c, fields::APID);
-    enter(list, apid as usize, input::word(c, fields::ENTRY));
-    match sequence::missing(apid, SequenceCount(input::word(c, fields::SEQUENCE)), list) {
+    let apid = input::word(c, places::APID);
+    enter(list, apid as usize, input::word(c, places::ENTRY));
+    match sequence::missing(apid, SequenceCount(input::word(c, places::SEQUENCE)), list) {
         Gap::Missing(n) => text::field(b"accepted missing ", n as u64),
         Gap::Refused(n) => text::field(b"refusal ", n as u64),
     }
-    text::words(b" list", list, input::word(c, fields::WORD));
+    text::words(b" list", list, input::word(c, places::WORD));
 }
 
 // Where a line starts in an image.
@@ -43,7 +43,7 @@ fn hold(line: &[u8], image: &mut [u8], lines: &mut [u32]) {
 
 // Placing a line, with the held lines put into the image before.
 pub(crate) fn place(c: &[u8], image: &mut [u8], lines: &mut [u32]) {
-    let held = input::block(c, fields::HELD);
+    let held = input::block(c, places::HELD);
     let mut at: usize = 0;
     while at < held.len() {
         hold(octets::part(held, at, 193), image, lines);
@@ -54,12 +54,12 @@ pub(crate) fn place(c: &[u8], image: &mut [u8], lines: &mut [u32]) {
 
 // Places the line, and prints which it is with its pixels, or the refusal.
 fn placed(c: &[u8], image: &mut [u8], lines: &mut [u32]) {
-    let packet = input::block(c, fields::INPUT);
-    let arrival = input::four(c, fields::ARRIVAL);
+    let packet = input::block(c, places::INPUT);
+    let arrival = input::four(c, places::ARRIVAL);
     match image::place(
         packet,
         arrival,
-        input::word(c, fields::WANTED),
+        input::word(c, places::WANTED),
         image,
         lines,
     ) {

@@ -1,6 +1,6 @@
 // The packet reader and writer.
-use crate::fields;
 use crate::input;
+use crate::places;
 use crate::text;
 use answer::Written;
 use counts::SequenceCount;
@@ -21,8 +21,7 @@ pub(crate) fn print(p: Packet) {
     );
 }
 
-pub(crate) fn read(c: &[u8]) {
-    let octets = input::block(c, fields::INPUT);
+pub(crate) fn read(octets: &[u8]) {
     match Packet::read(octets) {
         PacketRead::Packet(p) => {
             text::say(b"accepted");
@@ -36,12 +35,12 @@ pub(crate) fn read(c: &[u8]) {
 // The packet that the case gives.
 pub(crate) fn given(c: &[u8]) -> Packet {
     Packet {
-        apid: input::word(c, fields::APID),
-        sequence: SequenceCount(input::word(c, fields::SEQUENCE)),
-        service: input::octet(c, fields::SERVICE),
-        subtype: input::octet(c, fields::SUBTYPE),
-        time: input::number(c, fields::TIME),
-        length: input::number(c, fields::LENGTH) as usize,
+        apid: input::word(c, places::APID),
+        sequence: SequenceCount(input::word(c, places::SEQUENCE)),
+        service: input::octet(c, places::SERVICE),
+        subtype: input::octet(c, places::SUBTYPE),
+        time: input::eight(c, places::TIME),
+        length: input::eight(c, places::LENGTH) as usize,
     }
 }
 
@@ -56,5 +55,5 @@ pub(crate) fn written(w: Written, out: &[u8]) {
 
 pub(crate) fn write(c: &[u8], out: &mut [u8]) {
     let p = given(c);
-    written(p.write(input::block(c, fields::INPUT), out), out);
+    written(p.write(input::block(c, places::INPUT), out), out);
 }

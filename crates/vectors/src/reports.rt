@@ -1,7 +1,7 @@
 // The report reader and the writers.
-use crate::fields;
 use crate::input;
 use crate::packets;
+use crate::places;
 use crate::text;
 use answer::Written;
 use report::Available;
@@ -42,11 +42,11 @@ fn print(content: Content, octets: &[u8]) {
 }
 
 pub(crate) fn read(c: &[u8]) {
-    let octets = input::block(c, fields::INPUT);
+    let octets = input::block(c, places::INPUT);
     match Report::read(octets) {
         ReportRead::Report(r) => {
             text::say(b"accepted");
-            if input::octet(c, fields::SHOW) == 1 {
+            if input::octet(c, places::SHOW) == 1 {
                 let p = r.packet;
                 packets::print(p);
             }
@@ -60,10 +60,10 @@ pub(crate) fn read(c: &[u8]) {
 // What the writers of verification answer.
 fn verified(c: &[u8], code: bool, out: &mut [u8]) -> Written {
     let p = packets::given(c);
-    let id = input::word(c, fields::FIRST);
-    let control = input::word(c, fields::SECOND);
+    let id = input::word(c, places::FIRST);
+    let control = input::word(c, places::SECOND);
     if code {
-        let code = input::word(c, fields::THIRD);
+        let code = input::word(c, places::THIRD);
         let r = Failure { id, control, code };
         return r.write(p, out);
     }
@@ -74,24 +74,24 @@ fn verified(c: &[u8], code: bool, out: &mut [u8]) -> Written {
 // What the writer of the case's report answers.
 fn answer(c: &[u8], out: &mut [u8]) -> Written {
     let p = packets::given(c);
-    let octets = input::block(c, fields::INPUT);
-    let image = input::word(c, fields::FIRST);
-    match input::number(c, fields::WRITER) {
+    let octets = input::block(c, places::INPUT);
+    let image = input::word(c, places::FIRST);
+    match input::octet(c, places::WRITER) {
         1 => verified(c, false, out),
         2 => verified(c, true, out),
         3 => {
-            let sid = input::octet(c, fields::FIRST);
-            let length = input::number(c, fields::SECOND) as usize;
+            let sid = input::octet(c, places::FIRST);
+            let length = input::four(c, places::SECOND) as usize;
             let r = Housekeeping { sid, length };
             r.write(p, octets, out)
         }
         4 => {
-            let ticks = input::four(c, fields::SECOND);
+            let ticks = input::four(c, places::SECOND);
             let r = Available { image, ticks };
-            r.write(p, octets, input::block(c, fields::BLOCK), out)
+            r.write(p, octets, input::block(c, places::BLOCK), out)
         }
         _ => {
-            let line = input::octet(c, fields::SECOND);
+            let line = input::octet(c, places::SECOND);
             let r = Line { image, line };
             r.write(p, octets, out)
         }

@@ -1,6 +1,6 @@
 // Opening a session, giving one as it stands, and steps. Each prints the session whole, and answers it.
-use crate::fields;
 use crate::input;
+use crate::places;
 use crate::text;
 use counts::ChannelCount;
 use counts::MasterCount;
@@ -55,7 +55,7 @@ fn print(s: Session) {
 }
 
 pub(crate) fn open(c: &[u8]) -> Session {
-    let opened = Session::open(input::octet(c, fields::T), input::four(c, fields::ARRIVAL));
+    let opened = Session::open(input::octet(c, places::T), input::four(c, places::ARRIVAL));
     let s = opened.session;
     let answer = opened.answer;
     match answer {
@@ -69,12 +69,12 @@ pub(crate) fn open(c: &[u8]) -> Session {
 // The channel that the case gives.
 fn channel_of(c: &[u8]) -> Channel {
     let mut held = [0u8; 250];
-    octets::put(&mut held, 0, input::block(c, fields::INPUT));
+    octets::put(&mut held, 0, input::block(c, places::INPUT));
     Channel {
-        last: ChannelCount(input::octet(c, fields::LAST)),
-        heard: input::octet(c, fields::CHANNEL_HEARD) == 1,
-        instep: input::octet(c, fields::INSTEP) == 1,
-        length: input::octet(c, fields::LENGTH),
+        last: ChannelCount(input::octet(c, places::LAST)),
+        heard: input::octet(c, places::CHANNEL_HEARD) == 1,
+        instep: input::octet(c, places::INSTEP) == 1,
+        length: input::octet(c, places::HOLDS),
         held,
     }
 }
@@ -83,12 +83,12 @@ fn channel_of(c: &[u8]) -> Channel {
 pub(crate) fn given(c: &[u8]) -> Session {
     let opened = Session::open(0, 0);
     let mut s = opened.session;
-    s.t = input::octet(c, fields::T);
-    s.arrival = input::four(c, fields::ARRIVAL);
-    let master = MasterCount(input::octet(c, fields::MASTER));
+    s.t = input::octet(c, places::T);
+    s.arrival = input::four(c, places::ARRIVAL);
+    let master = MasterCount(input::octet(c, places::MASTER));
     s.master = master;
-    s.heard = input::octet(c, fields::HEARD) == 1;
-    let i = input::number(c, fields::CHANNEL) as usize;
+    s.heard = input::octet(c, places::HEARD) == 1;
+    let i = input::four(c, places::CHANNEL) as usize;
     if i < 8 {
         let channel = channel_of(c);
         s.channels[i] = channel;
@@ -99,7 +99,7 @@ pub(crate) fn given(c: &[u8]) -> Session {
 }
 
 pub(crate) fn step(c: &[u8], s: Session, octets: &mut [u8], lengths: &mut [u16]) -> Session {
-    let stepped = s.step(input::block(c, fields::INPUT), octets, lengths);
+    let stepped = s.step(input::block(c, places::INPUT), octets, lengths);
     let answer = stepped.answer;
     let next = stepped.session;
     match answer {

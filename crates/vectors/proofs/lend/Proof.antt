@@ -18,7 +18,9 @@ pub lend-spec : {M : Type 1} → statement M
 lend-spec =
     tie.close
     (tie.spec
-    (λ c κs. search needs) (λ c κs. search needs) (λ c κs. search needs) (λ c κs. search needs) (λ c κs. search needs)
-    (λ c κs. search needs) (λ c κs. search needs) (λ c. search needs) (λ c κs. search needs) (λ c. search needs) octets-lent
+    (λ c κs. search needs) (λ c κs. search needs) (λ c κs. search needs) (λ c κs. search needs)
+    (λ c κs. search needs) (λ c κs. search needs)
+    (λ c κs. search needs) (λ c κs. search needs) (λ c. search needs) (λ c κs. search needs) (λ c. search needs)
+    octets-lent
     (λ c. search needs) words-lent (λ c. search needs) fours-lent (λ c κs. search needs) (λ c. search needs)
     (λ c κs. search needs) (λ c. search needs))

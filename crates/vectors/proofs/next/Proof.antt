@@ -11,4 +11,5 @@ record-lent c = sym (length-take-le _ _ (search needs))
 pub next-spec : {M : Type 1} → statement M
 next-spec =
     tie.close
-    (tie.spec (λ c κs. search needs) (λ c κs. search needs) (λ c. search needs) record-lent (λ c κs. search needs) (λ c. search needs))
+    (tie.spec (λ c κs. search needs) (λ c κs. search needs) (λ c. search needs) record-lent (λ c κs. search needs)
+    (λ c. search needs))
