@@ -240,15 +240,26 @@ static u32 take(struct channel *c, u32 pointer, const u8 *data, u32 n)
     return count;
 }
 
+/* With no last count to compare with. */
+#define UNKNOWN 256
+
 static u32 lost_since(u8 *heard, u8 *last, u8 count)
 {
-    u32 lost = *heard ? (u8)(count - *last - 1) : 0;
+    u32 lost = *heard ? (u8)(count - *last - 1) : UNKNOWN;
     *heard = 1;
     *last = count;
     return lost;
 }
 
 /* ---- The listing */
+
+static void loss(u32 lost)
+{
+    if (lost == UNKNOWN)
+        text(" ?", 2);
+    else
+        next(lost);
+}
 
 static int packet_refusal(const u8 *p, u32 n)
 {
@@ -292,14 +303,14 @@ static void frame_lines(u32 arrival, const u8 *f, size_t n, size_t t)
     struct channel *c = &channels[f[HEADER] >> 3];
     u32 lost = lost_since(&c->heard, &c->last, f[HEADER + 2]);
     u32 master = lost_since(&master_heard, &master_last, f[HEADER + 1]);
-    if (lost) {
+    if (lost && lost != UNKNOWN) {
         c->length = 0;
         c->in_step = 0;
     }
     u32 count = take(c, f[HEADER + 3], f + HEADER + 4, (u32)(n - FRAME_LEAST - t));
     next(f[HEADER] >> 3);
-    next(lost);
-    next(master);
+    loss(lost);
+    loss(master);
     next(count);
     *out_at++ = '\n';
     for (u32 i = 0; i < count; i++)

@@ -7,18 +7,21 @@ use mathlib.Core.List.{List, [], _∷_, _++_, map}
 use Rattle.octets.specs.Numbers.{at}
 use Rattle.answer.specs.Told.{Told, accept}
 use Rattle.crc.specs.Check.{packetCheck}
+use Rattle.counts.specs.declared.Loss.{Loss}
+use Rattle.counts.specs.declared.Loss.the-variants.{Known}
 use Rattle.counts.specs.Lost.{lostSince}
 use Rattle.frame.specs.Address.{addressOctets}
 use Rattle.frame.specs.Frame.{statusWrong}
 use Rattle.frame.specs.declared.Address.{Address}
 use Rattle.packet.specs.Packet.{fieldsOf}
-use Rattle.sequence.specs.Sequence.{since}
+use Rattle.sequence.specs.Sequence.{Between, missing, since}
 use Rattle.image.specs.Line.{start}
 
--- Numbers, what an answer tells, or whether something is wrong.
+-- Numbers, a loss, what an answer tells, or whether something is wrong.
 pub data Said : Type 0 where
   numbers : List ℕ → Said
-  answer : Told ℕ → Said
+  lost : Loss → Said
+  answer : Told Between → Said
   wrong : Bool → Bool → Said
 
 pub record Row : Type 0 where
@@ -60,13 +63,13 @@ table =
     -- t = 5, status 0xC0 right, 0xB0 wrong
     ∷ row (wrong (statusWrong 5 0xc0) (statusWrong 5 0xb0)) (wrong false true)
     -- channel count 255 then 0, lost 0
-    ∷ row (one (lostSince (some 255) 0)) (one 0)
+    ∷ row (lost (lostSince (some 255) 0)) (lost (Known 0))
     -- 254 then 1, lost 2
-    ∷ row (one (lostSince (some 254) 1)) (one 2)
+    ∷ row (lost (lostSince (some 254) 1)) (lost (Known 2))
     -- sequence 16,383 then 0, missing 0 (the entry is the last count + 1)
-    ∷ row (answer (since 16384 0)) (answer (accept 0))
+    ∷ row (answer (since 16384 0)) (answer (accept (missing 0)))
     -- 5 then 9, missing 3
-    ∷ row (answer (since 6 9)) (answer (accept 3))
+    ∷ row (answer (since 6 9)) (answer (accept (missing 3)))
     -- time 00 00 00 01 80 is 384
     ∷ row (one (fieldsOf upToTime .time)) (one 384)
     -- line 119 starts at 22,372

@@ -7,7 +7,9 @@ use Prim.Native.Nat.{ℕ, zero, suc, _+_, _-_, _%_, _≤_, _<_}
 use native.Mathlib.Omega.{arith}
 use Rattle.counts.specs.Gap.{gap}
 use Rattle.counts.proofs.Laws.{gap-on}
-use Rattle.counts.specs.Lost.{lostSince}
+use Rattle.counts.specs.declared.Loss.{Loss}
+use Rattle.counts.specs.declared.Loss.the-variants.{Unknown, Known}
+use Rattle.counts.specs.Lost.{lostSince, number}
 use Rattle.rules.specs.Channel.{Held, nothing, answer, Piece, Channel, Work, follow, afterLoss, step, fresh}
 use Rattle.sender.specs.Stream.{nextCount}
 use Rattle.delivery.specs.Link.{Fate, lost, got}
@@ -16,7 +18,7 @@ use Rattle.delivery.specs.Delivered.{Report, losses}
 use Rattle.delivery.specs.Channels.{offered, run}
 
 -- What is said where a loss is seen at once: d frames were lost since the last arrival (none: none arrived yet).
-abbrev reported : ℕ → ℕ → Work → Report
+abbrev reported : ℕ → Loss → Work → Report
 reported a l w = record { arrival = a; lost = l; packets = w .packets }
 
 abbrev pub eager : Option ℕ → Bool → Held → List Fate → List Report
@@ -44,19 +46,19 @@ kept zero h = h
 kept (suc n) h = nothing
 
 -- the count d + 1 on from the last says d
-pub lost-is : (l d c : ℕ) → d ≤ 255 → c ≡ (l + 1 + d) % 256 → lostSince (some l) c ≡ d
+pub lost-is : (l d c : ℕ) → d ≤ 255 → c ≡ (l + 1 + d) % 256 → lostSince (some l) c ≡ Known d
 unfolding lostSince
 lost-is l d c hd e =
     let sum : l + 1 + d ≡ l + (d + 1) = omega arith in
     let less : d + 1 - 1 ≡ d = omega arith in
-    ap (λ (n : ℕ). gap 256 n l) (e ∙ ap (λ (n : ℕ). n % 256) sum) ∙ gap-on 256 l (d + 1) (omega arith) (omega arith) ∙ less
+    ap Known (ap (λ (n : ℕ). gap 256 n l) (e ∙ ap (λ (n : ℕ). n % 256) sum) ∙ gap-on 256 l (d + 1) (omega arith) (omega arith) ∙ less)
 
 after-loss : (a d : ℕ) (b : Bool) (h : Held) (ptr : ℕ) (xs : List ℕ) → afterLoss a d b h ptr xs ≡ follow a (still d b) (kept d h) ptr xs
 after-loss a zero b h ptr xs = refl
 after-loss a (suc d) b h ptr xs = refl
 
-step-is : (a : ℕ) (s : Channel) (f : Piece) (d : ℕ) → lostSince (s .last) (f .count) ≡ d
-    → step a s f ≡ answer (f .count) d (follow a (still d (s .inStep)) (kept d (s .held)) (f .pointer) (f .octets))
+step-is : (a : ℕ) (s : Channel) (f : Piece) (d : Loss) → lostSince (s .last) (f .count) ≡ d
+    → step a s f ≡ answer (f .count) d (follow a (still (number d) (s .inStep)) (kept (number d) (s .held)) (f .pointer) (f .octets))
 unfolding step
 step-is a s f d e = rw (e, after-loss)
 
@@ -71,10 +73,10 @@ after-first (lost f ∷ ss) l d c b h hl hc k m =
 after-first (got a f ∷ ss) l d c b h hl hc k m =
     let n : ℕ = f .count in
     let w : Work = follow a (still d b) (kept d h) (f .pointer) (f .octets) in
-    let e : lostSince (some l) n ≡ d = lost-is l d n (omega (arith, m .0)) (k .0 ∙ hc) in
+    let e : lostSince (some l) n ≡ Known d = lost-is l d n (omega (arith, m .0)) (k .0 ∙ hc) in
     let ih : run (at n (w .inStep) (w .held)) (offered ss) ≡ eager (some 0) (w .inStep) (w .held) ss =
     after-first ss n 0 (nextCount c) (w .inStep) (w .held) (omega (arith, k .0)) (omega (arith, k .0)) (k .1) (m .1) in
-    rw (step-is a (at l b h) f d e, ih)
+    rw (step-is a (at l b h) f (Known d) e, ih)
 
 pub counts : (ss : List Fate) (c : ℕ) → c < 256 → Counted c ss → AtMost mostLost (expectedLosses ss)
     → run fresh (offered ss) ≡ eager none false nothing ss
@@ -86,4 +88,4 @@ counts (got a f ∷ ss) c hc k m =
     let w : Work = follow a false nothing (f .pointer) (f .octets) in
     let ih : run (at n (w .inStep) (w .held)) (offered ss) ≡ eager (some 0) (w .inStep) (w .held) ss =
     after-first ss n 0 (nextCount c) (w .inStep) (w .held) (omega (arith, k .0)) (omega (arith, k .0)) (k .1) (m .1) in
-    rw (step-is a fresh f 0 refl, ih)
+    rw (step-is a fresh f Unknown refl, ih)

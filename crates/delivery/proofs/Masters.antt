@@ -16,7 +16,9 @@ use Rattle.answer.specs.Refusals as no
 use Rattle.counts.proofs.Laws.{gap-alone}
 use Rattle.frame.specs.Frame.{readFrame, dataOf}
 use Rattle.frame.proofs.ReadsBack.{reads-back}
-use Rattle.counts.specs.Lost.{lastOf, lostSince}
+use Rattle.counts.specs.declared.Loss.{Loss}
+use Rattle.counts.specs.declared.Loss.the-variants.{Unknown, Known}
+use Rattle.counts.specs.Lost.{lastOf, lostSince, number}
 use Rattle.rules.specs.Limits.{lastNumber}
 use Rattle.session.specs.declared.Session.{Session}
 use Rattle.session.specs.Channel.{unsound}
@@ -32,7 +34,7 @@ use Rattle.sender.specs.Sender.{Framed, sentOctets, AllWellFormed, Mastered, wh
 use Rattle.delivery.specs.Link.{Passing, arrives, loses, noise, arriving, allFates}
 use Rattle.delivery.specs.Expected.{LostAt, lostAt, oneMore, toldAs, lossesAfter, expectedLosses, AtMost, mostLost}
 use Rattle.delivery.specs.Run.{Call, Runs, Room, offerOf}
-use Rattle.delivery.specs.Further.{masterLosses, modulo256, MasterLoss, MasterLossExact}
+use Rattle.delivery.specs.Further.{masterLosses, lossModulo256, modulo256, MasterLoss, MasterLossExact}
 use Rattle.delivery.proofs.Facts.{nil-cons}
 use Rattle.delivery.proofs.Recording.{opened-runs}
 
@@ -52,13 +54,14 @@ follows-lost (some l) none m e = e
 follows-lost (some l) (some d) m e = omega arith
 
 -- any number lost, modulo 256
-lost-modulo : (l d m : ℕ) → m ≡ (l + 1 + d) % 256 → lostSince (some l) m ≡ d % 256
+lost-modulo : (l d m : ℕ) → m ≡ (l + 1 + d) % 256 → lostSince (some l) m ≡ Known (d % 256)
 unfolding lostSince
 lost-modulo l d m e =
-    sym (gap-alone 256 m l (d % 256) (omega arith)
-    (record { below = mod-lt d (omega arith); leads = add-mod-mod (l + 1) d 256 ∙ sym (mod-mod (l + 1 + d) 256) ∙ ap (λ (n : ℕ). n % 256) (sym e) }))
+    ap Known
+    (sym (gap-alone 256 m l (d % 256) (omega arith)
+    (record { below = mod-lt d (omega arith); leads = add-mod-mod (l + 1) d 256 ∙ sym (mod-mod (l + 1 + d) 256) ∙ ap (λ (n : ℕ). n % 256) (sym e) })))
 
-lost-told : (l d : Option ℕ) (m : ℕ) → Follows l d m → lostSince l m ≡ toldAs d % 256
+lost-told : (l d : Option ℕ) (m : ℕ) → Follows l d m → lostSince l m ≡ lossModulo256 (toldAs d)
 unfolding lostSince
 lost-told none none m e = refl
 lost-told none (some d) m e = absurd e
@@ -170,7 +173,7 @@ module _ (t : ℕ) where
       ap (λ (y : Stretch). offered s y (c .lent)) here
       ∙ takes s f t (sentOctets t f) (c .lent) e r (k .0) (ne-eqb (s .arrival) lastNumber (λ z. omega arith)) (b .fields) (b .«data») in
       let gives : Gives o (c .result) (c .lent) (c .left) = subst (λ (z : Outcome). Gives z (c .result) (c .lent) (c .left)) is (w .0) in
-      let same : lostSince (lastOf (s .heard) (s .master .0)) (f .fields .master .0) ≡ toldAs d % 256 =
+      let same : lostSince (lastOf (s .heard) (s .master .0)) (f .fields .master .0) ≡ lossModulo256 (toldAs d) =
       ap (lostSince (lastOf (s .heard) (s .master .0))) (h .0) ∙ lost-told (lastOf (s .heard) (s .master .0)) d m q in
       let number : o .session .arrival ≡ s .arrival + 1 = taken-number s f in
       let small : f .fields .master .0 < 256 = omega (arith, h .0) in
@@ -183,8 +186,8 @@ module _ (t : ℕ) where
       (taken-time s f ∙ e) (subst (λ (z : Session). Runs z cs) (gives .session) (w .1)) (k .1) rest (g .1) (h .1) (omega arith) (omega arith) follows in
       ap (λ (a : Told Accepted). told a ++ masterLosses cs) (gives .answers)
       ∙ ap (λ (a : List LostAt). a ++ masterLosses cs) (taken-told s f)
-      ∙ ap (λ (j : ℕ). lostAt (s .arrival + 1) j ∷ masterLosses cs) same
-      ∙ ap (λ (a : List LostAt). lostAt (s .arrival + 1) (toldAs d % 256) ∷ a)
+      ∙ ap (λ (j : Loss). lostAt (s .arrival + 1) j ∷ masterLosses cs) same
+      ∙ ap (λ (a : List LostAt). lostAt (s .arrival + 1) (lossModulo256 (toldAs d)) ∷ a)
       (ih ∙ ap (λ (j : ℕ). map modulo256 (lossesAfter (some 0) (allFates j link fs))) number)
 
 pub master-loss : MasterLoss
@@ -193,10 +196,14 @@ master-loss r =
     (opened-sound (r .t) (r .last) (r .timeSize)) refl (opened-runs (r .t) (r .last) (r .timeSize) (r .opened) (r .opens) (r .calls) (r .runs)) (r .room)
     (r .offers) (r .sender .wellFormed) (r .sender .masters) (r .sender .small) (r .numbers) tt
 
+small : (l : Loss) → number l ≤ mostLost → lossModulo256 l ≡ l
+small Unknown h = refl
+small (Known n) h = ap Known (mod-eq-of-lt {m = 256} (omega arith))
+
 all-small : (ls : List LostAt) → AtMost mostLost ls → map modulo256 ls ≡ ls
 all-small [] a = refl
 all-small (l ∷ ls) a =
-    ap (λ (j : ℕ). lostAt (l .arrival) j ∷ map modulo256 ls) (mod-eq-of-lt {m = 256} (omega (arith, a .0)))
+    ap (λ (j : Loss). lostAt (l .arrival) j ∷ map modulo256 ls) (small (l .lost) (a .0))
     ∙ ap (λ (q : List LostAt). l ∷ q) (all-small ls (a .1))
 
 pub master-loss-exact : MasterLossExact

@@ -5,19 +5,22 @@ use Prim.Native.Nat.{ℕ}
 use native.Mathlib.Omega.{arith}
 use lib.ListN.{length, getD}
 use lib.Dec.{lit≤, lit<}
-use Rattle.counts.specs.Lost.{lostSince}
+use Rattle.counts.specs.Lost.{lostSince, number}
 use Rattle.rules.specs.Channel.{Handed, standing, push, placeAfter, lengthHolds, enter, follow, step}
 use Rattle.rules.specs.Packets.{AllGood}
 use Rattle.rules.specs.BothSides.{out}
 use Rattle.sender.specs.Stream.{next}
-use Rattle.delivery.specs.Expected.{LostAt, lostAt}
-use Rattle.delivery.specs.Corners.{two, gap}
+use Rattle.delivery.specs.Expected.{LostAt}
+use Rattle.delivery.specs.Corners.{two, first, gap}
 use Rattle.delivery.specs.Shams.{Within, plain, parted, Shams}
 use Rattle.delivery.proofs.Corners.{good-16, good-30}
 
 -- what tells two lists apart: how many, the second's length, its arrival number
 abbrev second : List Handed → Handed
 second ps = getD ps 1 (out 0 [])
+
+second-lost : {ls ms : List LostAt} → ls ≡ ms → number (getD ls 1 (first 0) .lost) ≡ number (getD ms 1 (first 0) .lost)
+second-lost e = ap (λ (ls : List LostAt). number (getD ls 1 (first 0) .lost)) e
 
 two-good : AllGood two
 two-good = (good-16, (good-30, tt))
@@ -58,8 +61,12 @@ unfolding standing push placeAfter lengthHolds enter follow lostSince step
 shams = record {
   refuses-all = record { within = plain-within; fails = λ d. let z : _≡_ {A = ℕ} 0 2 = ap length (d .handed-out) in omega arith };
   joins-at-first = record { within = plain-within; fails = λ d. let z : _≡_ {A = ℕ} 1 2 = ap length (d .handed-out) in omega arith };
-  invents-losses = record { within = plain-within; fails = λ d. let z : _≡_ {A = ℕ} 1 0 = ap (λ (ls : List LostAt). getD ls 1 (lostAt 0 0) .lost) (d .losses-told) in omega arith };
+  invents-losses = record { within = plain-within; fails = λ d. let z : _≡_ {A = ℕ} 1 0 = second-lost (d .losses-told) in omega arith };
   invents-losses-only = refl;
+  withholds-losses = record { within = gap-within; fails = λ d. let z : _≡_ {A = ℕ} 0 1 = second-lost (d .losses-told) in omega arith };
+  withholds-losses-only = refl;
+  calls-unknown = record { within = gap-within; fails = λ d. let z : _≡_ {A = ℕ} 0 1 = second-lost (d .losses-told) in omega arith };
+  calls-unknown-only = refl;
   holds-across = record { within = gap-within; fails = λ d. let z : _≡_ {A = ℕ} 2 1 = ap length (d .handed-out) in omega arith };
   holds-across-only = refl;
   reads-c = record { within = plain-within; fails = λ d. let z : _≡_ {A = ℕ} 9 16 = ap (λ (ps : List Handed). length (getD ps 0 (out 0 []) .packet)) (d .handed-out) in omega arith };

@@ -3,11 +3,12 @@ use Prim.Native.Nat.{ℕ, zero, suc}
 use mathlib.Core.Path.{_≡_}
 use mathlib.Core.List.{List, [], _∷_, _++_}
 use lib.ListN.{replicate}
+use Rattle.counts.specs.declared.Loss.the-variants.{Unknown, Known}
 use Rattle.rules.specs.Channel.{Piece, fresh}
 use Rattle.rules.specs.BothSides.{packetOf, out}
 use Rattle.sender.specs.Stream.{Choice, raw, next, framesBy}
 use Rattle.delivery.specs.Link.{Fate, lost, got}
-use Rattle.delivery.specs.Expected.{expected, lostAt}
+use Rattle.delivery.specs.Expected.{expected, LostAt, lostAt}
 use Rattle.delivery.specs.Delivered.{handed, losses, Delivered}
 use Rattle.delivery.specs.Channels.{offered, run}
 
@@ -27,6 +28,13 @@ sentBy count ps choices numbers = linked numbers (framesBy ps 0 count choices)
 
 abbrev pub two : List (List ℕ)
 two = packetOf 16 1 ∷ packetOf 30 2 ∷ []
+
+abbrev pub loss : ℕ → ℕ → LostAt
+loss a n = lostAt a (Known n)
+
+-- At the first arrival.
+abbrev pub first : ℕ → LostAt
+first a = lostAt a Unknown
 
 -- An empty frame is lost inside the first packet.
 abbrev pub gap : List Fate
@@ -54,12 +62,12 @@ ends = sentBy 0 two (next 3 ∷ next 20 ∷ next 3 ∷ []) (0 ∷ 1 ∷ 2 ∷ []
 pub record Corners : Type 0 where
   pub gap-right : Delivered two gap (run fresh (offered gap))
   pub gap-packets : expected two gap ≡ out 3 (packetOf 30 2) ∷ []
-  pub gap-losses : losses (run fresh (offered gap)) ≡ lostAt 1 0 ∷ lostAt 2 1 ∷ lostAt 3 0 ∷ []
+  pub gap-losses : losses (run fresh (offered gap)) ≡ first 1 ∷ loss 2 1 ∷ loss 3 0 ∷ []
   pub raws-right : Delivered two raws (run fresh (offered raws))
   pub raws-packets : expected two raws ≡ out 3 (packetOf 16 1) ∷ []
   pub many-right : Delivered two (many 255) (run fresh (offered (many 255)))
   pub many-packets : expected two (many 255) ≡ out 3 (packetOf 30 2) ∷ []
-  pub many-losses : losses (run fresh (offered (many 255))) ≡ lostAt 1 0 ∷ lostAt 2 255 ∷ lostAt 3 0 ∷ []
+  pub many-losses : losses (run fresh (offered (many 255))) ≡ first 1 ∷ loss 2 255 ∷ loss 3 0 ∷ []
   pub split-right : Delivered two split (run fresh (offered split))
   pub split-packets : expected two split ≡ out 1 (packetOf 16 1) ∷ out 5 (packetOf 30 2) ∷ []
   pub ends-right : Delivered two ends (run fresh (offered ends))

@@ -2,6 +2,7 @@
 use Prim.Native.Nat.{ℕ}
 use mathlib.Core.Path.{_≡_}
 use mathlib.Core.List.{List, [], _∷_, _++_}
+use Rattle.counts.specs.declared.Loss.{Loss}
 use Rattle.rules.specs.Channel.{Handed}
 use Rattle.delivery.specs.Link.{Fate}
 use Rattle.delivery.specs.Expected.{expected, LostAt, lostAt, expectedLosses}
@@ -9,7 +10,7 @@ use Rattle.delivery.specs.Expected.{expected, LostAt, lostAt, expectedLo
 -- What is said at an arrival on the channel: the arrival number, the lost frames and the packets handed out.
 pub record Report : Type 0 where
   pub arrival : ℕ
-  pub lost : ℕ
+  pub lost : Loss
   pub packets : List Handed
 
 abbrev pub handed : List Report → List Handed

@@ -6,6 +6,9 @@ use mathlib.Core.Option.{Option, none, some}
 use lib.ListN.{length, getD, drop, replicate}
 use lib.Seq.{slice}
 use lib.Dec.{leb, eqb}
+use Rattle.counts.specs.declared.Loss.{Loss}
+use Rattle.counts.specs.declared.Loss.the-variants.{Unknown, Known}
+use Rattle.counts.specs.Lost.{number}
 use Rattle.frame.specs.Limits.{rawData, noneStarts}
 use Rattle.rules.specs.Channel.{Piece, heldOf, Handed, given}
 use Rattle.sender.specs.Sender.{when}
@@ -61,9 +64,9 @@ expected ps ss = expectedFrom ss ps (owners 0 ss)
 -- At an arrival, how many frames were lost since the arrival before.
 pub record LostAt : Type 0 where
   pub arrival : ℕ
-  pub lost : ℕ
+  pub lost : Loss
 
-abbrev pub lostAt : ℕ → ℕ → LostAt
+abbrev pub lostAt : ℕ → Loss → LostAt
 lostAt a n = record { arrival = a; lost = n }
 
 -- Lost so far since the last arrival, if there was one.
@@ -71,10 +74,10 @@ abbrev pub oneMore : Option ℕ → Option ℕ
 oneMore none = none
 oneMore (some n) = some (suc n)
 
--- 0 is said at the first arrival.
-abbrev pub toldAs : Option ℕ → ℕ
-toldAs none = 0
-toldAs (some n) = n
+-- At the first arrival it is unknown.
+abbrev pub toldAs : Option ℕ → Loss
+toldAs none = Unknown
+toldAs (some n) = Known n
 
 abbrev pub lossesAfter : Option ℕ → List Fate → List LostAt
 lossesAfter so [] = []
@@ -86,7 +89,7 @@ expectedLosses ss = lossesAfter none ss
 
 abbrev pub AtMost : ℕ → List LostAt → Type 0
 AtMost m [] = Unit {0}
-AtMost m (l ∷ ls) = (l .lost ≤ m) × AtMost m ls
+AtMost m (l ∷ ls) = (number (l .lost) ≤ m) × AtMost m ls
 
 -- The most frames of a channel that may be lost between two arrivals on it: a count of one octet shows no more.
 abbrev pub mostLost : ℕ

@@ -4,6 +4,8 @@ use mathlib.Core.Path.{_≡_}
 use mathlib.Core.List.{List, [], _∷_, _++_, map}
 use mathlib.Core.Bool.{false}
 use lib.ListN.{length}
+use Rattle.counts.specs.declared.Loss.{Loss}
+use Rattle.counts.specs.declared.Loss.the-variants.{Unknown, Known}
 use Rattle.frame.specs.Limits.{longestTime}
 use Rattle.rules.specs.Limits.{mostPackets, mostOctets, virtualChannels}
 use Rattle.rules.specs.Packets.{bare, joined}
@@ -58,10 +60,14 @@ masterLosses [] = []
 masterLosses (c ∷ cs) =
     when (answerOf c .accepted) (lostAt (answerOf c .fields .arrival) (answerOf c .fields .master)) ++ masterLosses cs
 
-abbrev pub modulo256 : LostAt → LostAt
-modulo256 l = lostAt (l .arrival) (l .lost % 256)
+abbrev pub lossModulo256 : Loss → Loss
+lossModulo256 Unknown = Unknown
+lossModulo256 (Known n) = Known (n % 256)
 
--- The master loss is the number of frames lost since the last arrival on any channel, modulo 256; 0 at the first.
+abbrev pub modulo256 : LostAt → LostAt
+modulo256 l = lostAt (l .arrival) (lossModulo256 (l .lost))
+
+-- The master loss is the number of frames lost since the last arrival on any channel, modulo 256; unknown at the first.
 abbrev pub MasterLoss : Type 0
 MasterLoss = (r : Reception) → masterLosses (r .calls) ≡ map modulo256 (expectedLosses (allFates (r .last) (r .link) (r .frames)))
 

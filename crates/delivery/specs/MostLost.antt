@@ -8,12 +8,11 @@ use Rattle.rules.specs.BothSides.{packetOf, out}
 use Rattle.sender.specs.Stream.{nextCount, framesBy}
 use Rattle.sender.specs.Sender.{Framed}
 use Rattle.delivery.specs.Link.{Passing, arrives, loses}
-use Rattle.delivery.specs.Expected.{lostAt}
 use Rattle.delivery.specs.Delivered.{handed, losses}
 use Rattle.delivery.specs.Run.{reportsOf}
 use Rattle.delivery.specs.Demand.{Reception}
 use Rattle.delivery.specs.Further.{masterLosses}
-use Rattle.delivery.specs.Corners.{two, manyEmpty}
+use Rattle.delivery.specs.Corners.{two, loss, first, manyEmpty}
 use Rattle.delivery.specs.Witness.{framed}
 
 -- Frames of channel 0 alone, one after another.
@@ -36,5 +35,5 @@ pub record MostLost : Type 0 where
   pub sent : reception .frames ≡ recording
   pub lost : reception .link ≡ losing
   pub packets : handed (reportsOf 0 (reception .calls)) ≡ out 3 (packetOf 30 2) ∷ []
-  pub told : losses (reportsOf 0 (reception .calls)) ≡ lostAt 1 0 ∷ lostAt 2 255 ∷ lostAt 3 0 ∷ []
-  pub masters : masterLosses (reception .calls) ≡ lostAt 1 0 ∷ lostAt 2 255 ∷ lostAt 3 0 ∷ []
+  pub told : losses (reportsOf 0 (reception .calls)) ≡ first 1 ∷ loss 2 255 ∷ loss 3 0 ∷ []
+  pub masters : masterLosses (reception .calls) ≡ first 1 ∷ loss 2 255 ∷ loss 3 0 ∷ []

@@ -7,14 +7,16 @@ use mathlib.Core.Option.{Option, none, some}
 use lib.ListN.{length, take, drop}
 use lib.Dec.{ltb}
 use Rattle.octets.specs.Numbers.{at, word}
-use Rattle.counts.specs.Lost.{lostSince}
+use Rattle.counts.specs.declared.Loss.{Loss}
+use Rattle.counts.specs.declared.Loss.the-variants.{Unknown, Known}
+use Rattle.counts.specs.Lost.{lostSince, number}
 use Rattle.rules.specs.Channel.{heldOf, Handed, given, Channel, fresh, answer, step, follow, afterLoss}
 use Rattle.rules.specs.Packets.{AllGood}
 use Rattle.sender.specs.Stream.{Choice, next, framesBy}
 use Rattle.delivery.specs.Link.{Fate}
 use Rattle.delivery.specs.Expected.{piece, expected, expectedLosses, AtMost, mostLost}
 use Rattle.delivery.specs.Delivered.{Report, handed, losses, Delivered}
-use Rattle.delivery.specs.Channels.{Offer, offered, runBy, report}
+use Rattle.delivery.specs.Channels.{Offer, offered, runBy, run, report}
 use Rattle.delivery.specs.Corners.{sentBy, two, gap}
 
 -- A recording within demand 3: packets of 16 to 251 octets, cut by some choices from some count on, and at most 255 frames lost between
@@ -47,17 +49,33 @@ refusesAll os = []
 abbrev pub joinsAtFirst : List Offer → List Report
 joinsAtFirst [] = []
 joinsAtFirst (o ∷ os) =
-    report (o .arrival) (step (o .arrival) fresh (o .frame)) ∷ map (λ (p : Offer). record { arrival = p .arrival; lost = 0; packets = [] }) os
+    report (o .arrival) (step (o .arrival) fresh (o .frame)) ∷ map (λ (p : Offer). record { arrival = p .arrival; lost = Known 0; packets = [] }) os
 
 -- It invents losses: after the first frame, one more than there was, and then goes by rule 1.
-abbrev pub invented : Option ℕ → ℕ → ℕ
-invented none count = 0
-invented (some last) count = suc (lostSince (some last) count)
+abbrev pub invented : Option ℕ → ℕ → Loss
+invented none count = Unknown
+invented (some last) count = Known (suc (number (lostSince (some last) count)))
 
 abbrev pub inventsLosses : List Offer → List Report
 inventsLosses os =
     runBy (λ a c f. answer (f .count) (invented (c .last) (f .count))
-    (afterLoss a (invented (c .last) (f .count)) (c .inStep) (c .held) (f .pointer) (f .octets))) fresh os
+    (afterLoss a (number (invented (c .last) (f .count))) (c .inStep) (c .held) (f .pointer) (f .octets))) fresh os
+
+-- It tells the rules' losses otherwise.
+abbrev pub retelling : (Loss → Loss) → List Offer → List Report
+retelling tell os = map (λ (r : Report). record { arrival = r .arrival; lost = tell (r .lost); packets = r .packets }) (run fresh os)
+
+-- It withholds losses: none, wherever there is a last count.
+abbrev pub withheld : Loss → Loss
+withheld Unknown = Unknown
+withheld (Known n) = Known 0
+
+abbrev pub withholdsLosses : List Offer → List Report
+withholdsLosses os = retelling withheld os
+
+-- It calls every loss unknown.
+abbrev pub callsUnknown : List Offer → List Report
+callsUnknown os = retelling (λ l. Unknown) os
 
 -- It keeps what is held across a lost frame.
 abbrev pub holdsAcross : List Offer → List Report
@@ -75,7 +93,7 @@ abbrev pub readsC : List Offer → List Report
 readsC os =
     map (λ (o : Offer). record {
       arrival = o .arrival;
-      lost = 0;
+      lost = Known 0;
       packets = map (λ (p : List ℕ). given (o .arrival) (heldOf p)) (cutByC 16 (drop (o .frame .pointer) (o .frame .octets)));
     }) os
 
@@ -110,6 +128,10 @@ pub record Shams : Type 0 where
   -- 'At each later arrival it reports how many were lost': the packets are right, the losses are not.
   pub invents-losses : Fails inventsLosses two plain
   pub invents-losses-only : handed (inventsLosses (offered plain)) ≡ expected two plain
+  pub withholds-losses : Fails withholdsLosses two gap
+  pub withholds-losses-only : handed (withholdsLosses (offered gap)) ≡ expected two gap
+  pub calls-unknown : Fails callsUnknown two gap
+  pub calls-unknown-only : handed (callsUnknown (offered gap)) ≡ expected two gap
   -- 'exactly the packets for which every frame from first octet to last arrived': the losses are right, the packets are not.
   pub holds-across : Fails holdsAcross two gap
   pub holds-across-only : losses (holdsAcross (offered gap)) ≡ expectedLosses gap

@@ -10,12 +10,11 @@ use Rattle.rules.specs.BothSides.{packetOf, out}
 use Rattle.sender.specs.Stream.{Choice, raw, next, framesBy}
 use Rattle.sender.specs.Sender.{Framed}
 use Rattle.delivery.specs.Link.{Passing, arrives, loses, noise, fates}
-use Rattle.delivery.specs.Expected.{lostAt}
 use Rattle.delivery.specs.Delivered.{handed, losses, Delivered}
 use Rattle.delivery.specs.Run.{Call, answerOf, reportsOf}
 use Rattle.delivery.specs.Demand.{Reception}
 use Rattle.delivery.specs.Further.{masterLosses}
-use Rattle.delivery.specs.Corners.{two}
+use Rattle.delivery.specs.Corners.{two, loss, first}
 
 -- "HB9EG" of SSID 1 to "HB9EG" of SSID 2.
 abbrev pub station : ℕ → Address
@@ -71,9 +70,9 @@ pub record Witness : Type 0 where
   pub sent : reception .frames ≡ recording
   pub lost : reception .link ≡ losing
   pub zero-packets : handed (reportsOf 0 (reception .calls)) ≡ out 4 (packetOf 16 1) ∷ []
-  pub zero-losses : losses (reportsOf 0 (reception .calls)) ≡ lostAt 1 0 ∷ lostAt 4 0 ∷ lostAt 6 1 ∷ []
+  pub zero-losses : losses (reportsOf 0 (reception .calls)) ≡ first 1 ∷ loss 4 0 ∷ loss 6 1 ∷ []
   pub five-packets : handed (reportsOf 5 (reception .calls)) ≡ out 5 (packetOf 16 1) ∷ out 7 (packetOf 30 2) ∷ []
-  pub five-losses : losses (reportsOf 5 (reception .calls)) ≡ lostAt 2 0 ∷ lostAt 5 1 ∷ lostAt 7 0 ∷ []
-  pub masters : masterLosses (reception .calls) ≡ lostAt 1 0 ∷ lostAt 2 0 ∷ lostAt 4 0 ∷ lostAt 5 2 ∷ lostAt 6 0 ∷ lostAt 7 0 ∷ []
+  pub five-losses : losses (reportsOf 5 (reception .calls)) ≡ first 2 ∷ loss 5 1 ∷ loss 7 0 ∷ []
+  pub masters : masterLosses (reception .calls) ≡ first 1 ∷ loss 2 0 ∷ loss 4 0 ∷ loss 5 2 ∷ loss 6 0 ∷ loss 7 0 ∷ []
   -- No run that refuses every frame would do.
   pub refused : (calls : List Call) → AllRefused calls → Delivered fivePackets (fates 5 0 losing recording) (reportsOf 5 calls) → ⊥

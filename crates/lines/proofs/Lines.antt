@@ -1,17 +1,20 @@
 -- A line that was laid where it has room.
 use Prim.Native.Nat.{ℕ, _+_, _*_, _≤_, _<_}
 use mathlib.Core.Path.{_≡_, refl, sym, _∙_}
-use mathlib.Core.List.{List, [], _∷_, _++_}
+use mathlib.Core.List.{List, [], _∷_, _++_, append-assoc}
 use mathlib.Core.Bool.{Bool, true, false}
 use native.Mathlib.Omega.{arith}
 use lib.Dec.{ltb}
-use lib.ListN.{length}
+use lib.ListN.{length, length-append}
 use borrow.Author.Tests.{lt-ltb, le-ltb, ltb-true, ltb-false}
 use Rattle.octets.specs.Pick.{pick}
 use Rattle.octets.specs.Parts.{put}
 use Rattle.decimal.specs.Text.{longestNumber, decimal, spaced}
 use Rattle.decimal.specs.Laid.{Laid, Puts}
-use Rattle.decimal.proofs.Laid.{resaid, behind-numbers, put-laid, puts-none, puts-laid, number-laid, numbers-laid}
+use Rattle.decimal.proofs.Laid.{resaid, joined, behind-numbers, put-laid, puts-none, puts-laid, laid-puts, number-laid, numbers-laid}
+use Rattle.decimal.proofs.Short.{decimal-short}
+use Rattle.counts.specs.declared.Loss.{Loss}
+use Rattle.counts.specs.declared.Loss.the-variants.{Unknown, Known}
 use Rattle.packet.specs.Packet.{told}
 use Rattle.packet.specs.declared.Packet.{Packet}
 use Rattle.packet.specs.declared.PacketRead.{PacketRead}
@@ -20,7 +23,7 @@ use Rattle.session.specs.Step.{told as toldStep}
 use Rattle.session.specs.declared.Accepted.{Accepted}
 use Rattle.session.specs.declared.StepAnswer.{StepAnswer}
 use Rattle.session.specs.declared.StepAnswer.the-variants as steps
-use Rattle.lines.specs.Text.{longestLine, acceptedLine, refusedLine, packetLine, turnedAwayLine, packetText, answerText}
+use Rattle.lines.specs.Text.{longestLine, shown, acceptedLine, refusedLine, packetLine, turnedAwayLine, packetText, answerText}
 
 -- numbers, and a last one
 pub numbers-then : {out out₁ out₂ : List ℕ} {at r₁ r₂ : ℕ} (ns : List ℕ) (n after : ℕ) → at + longestNumber * length ns + longestNumber ≤ length out → length out₁ ≡ length out
@@ -37,6 +40,43 @@ pub numbers-text : {out out₁ out₂ : List ℕ} {at r₁ : ℕ} (ns text : Lis
 numbers-text ns text room same x e =
     let l = numbers-laid ns (omega arith) x in
     behind-numbers ns (omega arith) l (put-laid (omega (arith, l .near)) e)
+
+-- a question mark, where a number would have no room, and where it would
+pub no-mark : {out : List ℕ} {at : ℕ} → length out < at + longestNumber → Puts longestNumber (63 ∷ 32 ∷ []) out at out at
+no-mark h = puts-none h
+
+pub mark-put : {out out′ : List ℕ} {at : ℕ} → at + longestNumber ≤ length out → out′ ≡ put out at (63 ∷ 32 ∷ []) → Puts longestNumber (63 ∷ 32 ∷ []) out at out′ (at + 2)
+mark-put h e = puts-laid h (resaid refl (omega arith) (put-laid (omega arith) e))
+
+-- a loss, unknown or not
+pub unknown-put : {lost : Loss} {out out′ : List ℕ} {at r : ℕ} → lost ≡ Unknown → Puts longestNumber (63 ∷ 32 ∷ []) out at out′ r → Puts longestNumber (shown lost ++ (32 ∷ [])) out at out′ r
+unknown-put e p = rw e p
+
+pub known-put : {lost : Loss} {n : ℕ} {out out′ : List ℕ} {at r : ℕ} → lost ≡ Known n → Puts longestNumber (decimal n ++ (32 ∷ [])) out at out′ r → Puts longestNumber (shown lost ++ (32 ∷ [])) out at out′ r
+known-put e p = rw e p
+
+shown-short : (l : Loss) → length (shown l ++ (32 ∷ [])) ≤ longestNumber
+shown-short Unknown = omega arith
+shown-short (Known n) = simp length-append (omega (arith, decimal-short n))
+
+-- three texts, each but the last with a space behind it
+three : (a b c : List ℕ) {k m n : ℕ} {out out₁ out₂ out₃ : List ℕ} {at r₁ r₂ r₃ : ℕ} → at ≤ length out → r₁ ≤ length out₁ → Laid k (a ++ (32 ∷ [])) out at out₁ r₁
+    → Laid m (b ++ (32 ∷ [])) out₁ r₁ out₂ r₂ → Laid n c out₂ r₂ out₃ r₃ → Laid (k + (m + n)) (a ++ (32 ∷ (b ++ (32 ∷ c)))) out at out₃ r₃
+three a b c h g x y z = resaid (simp append-assoc) (omega arith) (joined h x (joined g y z))
+
+-- numbers, two losses, and a last number
+pub losses-then : {out out₁ out₂ out₃ out₄ : List ℕ} {at r₁ r₂ r₃ r₄ : ℕ} (ns : List ℕ) (lost master : Loss) (n : ℕ)
+    → Puts (longestNumber * length ns) (spaced ns []) out at out₁ r₁ → Puts longestNumber (shown lost ++ (32 ∷ [])) out₁ r₁ out₂ r₂
+    → Puts longestNumber (shown master ++ (32 ∷ [])) out₂ r₂ out₃ r₃ → Puts longestNumber (decimal n ++ (10 ∷ [])) out₃ r₃ out₄ r₄
+    → at + longestNumber * length ns + 3 * longestNumber ≤ length out → length out₁ ≡ length out → length out₂ ≡ length out₁ → length out₃ ≡ length out₂
+    → Laid (longestNumber * length ns + 3 * longestNumber) (spaced ns (shown lost ++ (32 ∷ (shown master ++ (32 ∷ (decimal n ++ (10 ∷ []))))))) out at out₄ r₄
+losses-then ns lost master n x y z w room e₁ e₂ e₃ =
+    let l = numbers-laid ns (omega arith) x in
+    let a = laid-puts (omega (arith, l .near)) (shown-short lost) y in
+    let b = laid-puts (omega (arith, l .near, a .near)) (shown-short master) z in
+    let d = number-laid n 10 (omega (arith, l .near, a .near, b .near)) w in
+    resaid refl (omega arith)
+    (behind-numbers ns (omega arith) l (three (shown lost) (shown master) (decimal n ++ (10 ∷ [])) (omega (arith, l .near)) (omega (arith, l .near, a .near)) a b d))
 
 -- whether a line has no room
 pub lacks-room : (out : List ℕ) (at : ℕ) → length out < at + longestLine → true ≡ ltb (length out) (at + longestLine)

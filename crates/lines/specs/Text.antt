@@ -5,6 +5,8 @@ use lib.ListN.{length}
 use Rattle.octets.specs.Pick.{pick}
 use Rattle.answer.specs.Told.{Told}
 use Rattle.decimal.specs.Text.{decimal}
+use Rattle.counts.specs.declared.Loss.{Loss}
+use Rattle.counts.specs.declared.Loss.the-variants.{Unknown, Known}
 use Rattle.packet.specs.declared.Packet.{Packet}
 use Rattle.session.specs.declared.Accepted.{Accepted}
 
@@ -17,10 +19,15 @@ line word (next ∷ words) = word ++ (32 ∷ line next words)
 abbrev pub dash : List ℕ
 dash = 45 ∷ []
 
+-- A loss: the number, or a question mark.
+abbrev pub shown : Loss → List ℕ
+shown Unknown = 63 ∷ []
+shown (Known n) = decimal n
+
 -- Arrival, 0, channel, lost, master lost, packets.
 unfoldable pub acceptedLine : ℕ → Accepted → List ℕ
 acceptedLine arrival a =
-    line (decimal arrival) (decimal 0 ∷ decimal (a .channel) ∷ decimal (a .lost) ∷ decimal (a .master) ∷ decimal (a .packets) ∷ [])
+    line (decimal arrival) (decimal 0 ∷ decimal (a .channel) ∷ shown (a .lost) ∷ shown (a .master) ∷ decimal (a .packets) ∷ [])
 
 -- Arrival, refusal, four dashes.
 unfoldable pub refusedLine : ℕ → ℕ → List ℕ

@@ -4,11 +4,12 @@ ghost use mathlib.Core.List.{[], _∷_, _++_};
 ghost use Prim.Native.Nat.{_+_, _≤_};
 ghost use lib.ListN.{length};
 ghost use lib.Dec.{ltb};
-ghost use Rattle.decimal.specs.Text.{decimal, spaced};
+ghost use Rattle.decimal.specs.Text.{longestNumber, decimal, spaced};
 ghost use Rattle.decimal.specs.Laid.{Laid, Puts};
 ghost use Rattle.packet.specs.Packet.{told as toldPacket};
 ghost use Rattle.session.specs.Step.{told as toldStep};
-ghost use Rattle.lines.specs.Text.{longestLine, acceptedLine, refusedLine, packetLine, turnedAwayLine, packetText, answerText, header, badRecording};
+ghost use Rattle.lines.specs.Text.{longestLine, shown, acceptedLine, refusedLine, packetLine, turnedAwayLine, packetText, answerText, header, badRecording};
+use counts::Loss;
 use packet::Packet;
 use packet::PacketRead;
 use session::Accepted;
@@ -78,14 +79,42 @@ fn no_room(out: &[u8], at: usize) -> bool
     false
 }
 
+// A loss and a space behind it: the number, or a question mark.
+fn loss(out: &mut [u8], at: usize, lost: Loss) -> usize
+    ensures { λ r. ⌜ Puts longestNumber (shown lost ++ (32 ∷ [])) (now (out .entry)) at (now (out .exit)) r ⌝ }
+{
+    match lost {
+        Loss::Unknown => mark(out, at),
+        Loss::Known(n) => decimal::number(out, at, n as u32, b' '),
+    }
+}
+
+// A question mark and a space behind it, where a number would have room.
+fn mark(out: &mut [u8], at: usize) -> usize
+    ensures { λ r. ⌜ Puts longestNumber (63 ∷ 32 ∷ []) (now (out .entry)) at (now (out .exit)) r ⌝ }
+{
+    if out.len() < at {
+        return at;
+    }
+    if out.len() - at < decimal::NUMBER {
+        return at;
+    }
+    octets::put(out, at, b"? ");
+    at + 2
+}
+
 // The line of an accepted frame.
 fn accepted(out: &mut [u8], at: usize, arrival: u32, a: Accepted) -> usize
     requires { ⌜ at + longestLine ≤ length (now out) ⌝ }
     ensures { λ r. ⌜ Laid longestLine (acceptedLine arrival a) (now (out .entry)) at (now (out .exit)) r ⌝ }
 {
-    let list = [arrival, 0, a.channel as u32, a.lost as u32, a.master as u32];
+    let list = [arrival, 0, a.channel as u32];
     let next = decimal::numbers(out, at, &list);
-    decimal::number(out, next, a.packets as u32, b'\n')
+    let lost = a.lost;
+    let master = a.master;
+    let after = loss(out, next, lost);
+    let last = loss(out, after, master);
+    decimal::number(out, last, a.packets as u32, b'\n')
 }
 
 // The line of a refused frame.

@@ -24,6 +24,7 @@ fn good() {
     listed(b"address");
     listed(b"every-number");
     listed(b"long");
+    listed(b"second-channel");
 }
 
 // The recordings that are bad.

@@ -9,7 +9,7 @@ use lib.ListN.{length, take, drop, length-append, length-take, length-drop, take
 use lib.Dec.{ltb, leb, eqb}
 use borrow.Author.Tests.{le-ltb, le-leb, lt-leb, ltb-false, leb-true, leb-false, not-false}
 use Rattle.octets.proofs.Tests.{or-left, or-right, and-true-left, and-true-right}
-use Rattle.counts.specs.Lost.{lostSince}
+use Rattle.counts.specs.Lost.{lostSince, number}
 use Rattle.rules.specs.Channel.{Held, nothing, grown, Handed, given, Standing, unfinished, whole, wrong, standing, allowed, lengthIn, Work, outOfStep, holding, settle, push, feed, fits, enter, follow, afterLoss, step}
 use Rattle.rules.specs.Packets.{Good, AllGood, joined, bare}
 use Rattle.rules.specs.Bounds.{heldWrong, Sound, PassingSound, SoundPassing, FreshSound, StepBounded}
@@ -222,7 +222,7 @@ at-most-16 m (p ∷ ps) h l f = omega arith
 pub step-bounded : StepBounded
 unfolding step
 step-bounded a c f o l =
-    let n : ℕ = lostSince (c .last) (f .count) in
+    let n : ℕ = number (lostSince (c .last) (f .count)) in
     let w : Work = afterLoss a n (c .inStep) (c .held) (f .pointer) (f .octets) in
     let r : Room (length (c .held .octets)) (length (f .octets)) w = loss-room a n (c .inStep) (c .held) (f .pointer) (f .octets) o in
     record {

@@ -5,7 +5,7 @@ use mathlib.Core.Bool.{Bool, true, false, _&&_, cond}
 use Prim.Native.Nat.{ℕ, zero, suc}
 use lib.ListN.{drop}
 use lib.Dec.{eqb}
-use Rattle.counts.specs.Lost.{lostSince}
+use Rattle.counts.specs.Lost.{lostSince, number}
 use Rattle.rules.specs.Channel.{Held, nothing, grown, Handed, given, Standing, unfinished, whole, wrong, standing, Work, holding, settle, push, feed, fits, enter, follow, afterLoss, step}
 use Rattle.rules.specs.Step.{StepFields}
 use Rattle.rules.specs.Bounds.{Under, StepArrivals}
@@ -50,4 +50,4 @@ step-fields a c f = record { lost = refl; packets = refl; last = refl; inStep = 
 
 pub step-arrivals : StepArrivals
 step-arrivals a c f =
-    rw (step-fields a c f .packets) (loss-under a (lostSince (c .last) (f .count)) (c .inStep) (c .held) (f .pointer) (f .octets))
+    rw (step-fields a c f .packets) (loss-under a (number (lostSince (c .last) (f .count))) (c .inStep) (c .held) (f .pointer) (f .octets))

@@ -4,6 +4,8 @@ use mathlib.Core.Path.{_≡_}
 use mathlib.Core.List.{List, [], _∷_, _++_}
 use lib.ListN.{take, drop, replicate}
 use mathlib.Core.Bool.{true, false}
+use Rattle.counts.specs.declared.Loss.{Loss}
+use Rattle.counts.specs.declared.Loss.the-variants.{Unknown, Known}
 use Rattle.rules.specs.Channel.{Piece, heldOf, Handed, given, Channel, fresh, step}
 use Rattle.rules.specs.Bounds.{heldWrong}
 
@@ -19,16 +21,20 @@ out a p = given a (heldOf p)
 
 -- What a channel answers, its next state aside.
 pub record Reply : Type 0 where
-  pub lost : ℕ
+  pub lost : Loss
   pub packets : List Handed
 
 abbrev pub reply : ℕ → List Handed → Reply
-reply n ps = record { lost = n; packets = ps }
+reply n ps = record { lost = Known n; packets = ps }
+
+-- To the first frame.
+abbrev pub first : List Handed → Reply
+first ps = record { lost = Unknown; packets = ps }
 
 -- The channel's replies to frames under the arrival numbers a, a + 1 and so on.
 abbrev pub repliesTo : ℕ → Channel → List Piece → List Reply
 repliesTo a c [] = []
-repliesTo a c (f ∷ fs) = reply (step a c f .lost) (step a c f .packets) ∷ repliesTo (suc a) (step a c f .next) fs
+repliesTo a c (f ∷ fs) = record { lost = step a c f .lost; packets = step a c f .packets } ∷ repliesTo (suc a) (step a c f .next) fs
 
 abbrev pub replies : List Piece → List Reply
 replies fs = repliesTo 1 fresh fs
@@ -43,30 +49,30 @@ pub record BothSides : Type 0 where
   -- Rules 3 and 5. A packet that ends with its data, then one whose header is split over three frames.
   pub split :
       replies (frame 7 0 one ∷ frame 8 0 (take 3 two) ∷ frame 9 255 (take 1 (drop 3 two)) ∷ frame 10 255 (take 3 (drop 4 two)) ∷ frame 11 23 (drop 7 two ++ one) ∷ [])
-      ≡ reply 0 (out 1 one ∷ []) ∷ reply 0 [] ∷ reply 0 [] ∷ reply 0 [] ∷ reply 0 (out 5 two ∷ out 5 one ∷ []) ∷ []
+      ≡ first (out 1 one ∷ []) ∷ reply 0 [] ∷ reply 0 [] ∷ reply 0 [] ∷ reply 0 (out 5 two ∷ out 5 one ∷ []) ∷ []
   -- Rule 1. A frame, be it empty, is lost inside a packet: the packet goes, and rule 4 takes the frame.
   pub gap :
-      replies (frame 255 0 (take 10 one) ∷ frame 1 6 (drop 10 one ++ two) ∷ []) ≡ reply 0 [] ∷ reply 1 (out 2 two ∷ []) ∷ []
+      replies (frame 255 0 (take 10 one) ∷ frame 1 6 (drop 10 one ++ two) ∷ []) ≡ first [] ∷ reply 1 (out 2 two ∷ []) ∷ []
   -- The greatest loss that a count can show.
-  pub most : replies (frame 3 0 (take 10 one) ∷ frame 3 6 (drop 10 one ++ two) ∷ []) ≡ reply 0 [] ∷ reply 255 (out 2 two ∷ []) ∷ []
+  pub most : replies (frame 3 0 (take 10 one) ∷ frame 3 6 (drop 10 one ++ two) ∷ []) ≡ first [] ∷ reply 255 (out 2 two ∷ []) ∷ []
   -- Rule 2. A raw frame inside a packet changes nothing.
-  pub raw : replies (frame 0 0 (take 10 one) ∷ frame 1 254 two ∷ frame 2 255 (drop 10 one) ∷ []) ≡ reply 0 [] ∷ reply 0 [] ∷ reply 0 (out 3 one ∷ []) ∷ []
+  pub raw : replies (frame 0 0 (take 10 one) ∷ frame 1 254 two ∷ frame 2 255 (drop 10 one) ∷ []) ≡ first [] ∷ reply 0 [] ∷ reply 0 (out 3 one ∷ []) ∷ []
   -- Rule 3. The pointer isn't the place after the held packet: it is dropped, and rule 4 takes the frame.
-  pub pointer : replies (frame 0 0 (take 10 one) ∷ frame 1 7 (drop 10 one ++ 9 ∷ two) ∷ []) ≡ reply 0 [] ∷ reply 0 (out 2 two ∷ []) ∷ []
+  pub pointer : replies (frame 0 0 (take 10 one) ∷ frame 1 7 (drop 10 one ++ 9 ∷ two) ∷ []) ≡ first [] ∷ reply 0 (out 2 two ∷ []) ∷ []
   -- Rule 3. The held packet's length becomes known here and is 15 or 252.
-  pub short : replies (frame 0 0 (take 4 (packetOf 15 1)) ∷ frame 1 11 (drop 4 (packetOf 15 1) ++ two) ∷ []) ≡ reply 0 [] ∷ reply 0 (out 2 two ∷ []) ∷ []
-  pub long : replies (frame 0 0 (take 4 (packetOf 252 1)) ∷ frame 1 255 (drop 4 (packetOf 252 1)) ∷ frame 2 0 one ∷ []) ≡ reply 0 [] ∷ reply 0 [] ∷ reply 0 (out 3 one ∷ []) ∷ []
+  pub short : replies (frame 0 0 (take 4 (packetOf 15 1)) ∷ frame 1 11 (drop 4 (packetOf 15 1) ++ two) ∷ []) ≡ first [] ∷ reply 0 (out 2 two ∷ []) ∷ []
+  pub long : replies (frame 0 0 (take 4 (packetOf 252 1)) ∷ frame 1 255 (drop 4 (packetOf 252 1)) ∷ frame 2 0 one ∷ []) ≡ first [] ∷ reply 0 [] ∷ reply 0 (out 3 one ∷ []) ∷ []
   -- Rule 4. Out of step, 255 skips all.
-  pub skip : replies (frame 0 255 one ∷ frame 1 0 one ∷ []) ≡ reply 0 [] ∷ reply 0 (out 2 one ∷ []) ∷ []
+  pub skip : replies (frame 0 255 one ∷ frame 1 0 one ∷ []) ≡ first [] ∷ reply 0 (out 2 one ∷ []) ∷ []
   -- Rule 5. A length of 15 or 252 begun here drops the rest, and what came before stays handed out; 251 passes.
-  pub rest : replies (frame 0 0 (one ++ packetOf 15 2 ++ one) ∷ []) ≡ reply 0 (out 1 one ∷ []) ∷ []
+  pub rest : replies (frame 0 0 (one ++ packetOf 15 2 ++ one) ∷ []) ≡ first (out 1 one ∷ []) ∷ []
   pub left : step 1 fresh (frame 0 0 (packetOf 15 2)) .next .inStep ≡ false
-  pub over : replies (frame 0 0 (one ++ packetOf 252 2) ∷ frame 1 255 (drop 200 (packetOf 252 2)) ∷ []) ≡ reply 0 (out 1 one ∷ []) ∷ reply 0 [] ∷ []
-  pub greatest : replies (frame 0 0 (packetOf 251 2) ∷ []) ≡ reply 0 (out 1 (packetOf 251 2) ∷ []) ∷ []
+  pub over : replies (frame 0 0 (one ++ packetOf 252 2) ∷ frame 1 255 (drop 200 (packetOf 252 2)) ∷ []) ≡ first (out 1 one ∷ []) ∷ reply 0 [] ∷ []
+  pub greatest : replies (frame 0 0 (packetOf 251 2) ∷ []) ≡ first (out 1 (packetOf 251 2) ∷ []) ∷ []
   -- Most packets of one frame: one held but for its last octet, and fifteen more.
   pub sixteen :
       replies (frame 0 0 (take 15 one) ∷ frame 1 1 (1 ∷ one ++ one ++ one ++ one ++ one ++ one ++ one ++ one ++ one ++ one ++ one ++ one ++ one ++ one ++ one) ∷ [])
-      ≡ reply 0 [] ∷ reply 0 (replicate 16 (out 2 one)) ∷ []
+      ≡ first [] ∷ reply 0 (replicate 16 (out 2 one)) ∷ []
   -- Refusal 4, both sides of each line.
   pub part : heldWrong true 15 one ≡ false
   pub all : heldWrong true 16 one ≡ true

@@ -6,7 +6,8 @@ use Prim.Native.Nat.{ℕ, zero, suc, _+_, _-_}
 use lib.ListN.{length, drop}
 use lib.Dec.{leb, ltb, eqb}
 use Rattle.octets.specs.Numbers.{at, word}
-use Rattle.counts.specs.Lost.{lostSince}
+use Rattle.counts.specs.declared.Loss.{Loss}
+use Rattle.counts.specs.Lost.{lostSince, number}
 use Rattle.frame.specs.Limits.{rawData, noneStarts}
 use Rattle.packet.specs.Limits.{leastLength, greatestLength}
 
@@ -127,15 +128,15 @@ afterLoss a (suc n) inStep h pointer xs = follow a false nothing pointer xs
 
 -- What the channel answers to a frame: lost frames, packets handed out, and the channel afterwards.
 pub record Answer : Type 0 where
-  pub lost : ℕ
+  pub lost : Loss
   pub packets : List Handed
   pub next : Channel
 
-abbrev pub answer : ℕ → ℕ → Work → Answer
+abbrev pub answer : ℕ → Loss → Work → Answer
 answer count lost w = record { lost = lost; packets = w .packets; next = record { last = some count; inStep = w .inStep; held = w .held } }
 
 -- The frame f, offered under the arrival number a.
 unfoldable pub step : ℕ → Channel → Piece → Answer
 step a c f =
-    let lost : ℕ = lostSince (c .last) (f .count) in
-    answer (f .count) lost (afterLoss a lost (c .inStep) (c .held) (f .pointer) (f .octets))
+    let lost : Loss = lostSince (c .last) (f .count) in
+    answer (f .count) lost (afterLoss a (number lost) (c .inStep) (c .held) (f .pointer) (f .octets))

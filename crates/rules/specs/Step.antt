@@ -2,12 +2,12 @@
 use Prim.Native.Nat.{ℕ}
 use mathlib.Core.Path.{_≡_}
 use mathlib.Core.Option.{some}
-use Rattle.counts.specs.Lost.{lostSince}
+use Rattle.counts.specs.Lost.{lostSince, number}
 use Rattle.rules.specs.Channel.{Piece, Channel, Work, afterLoss, step}
 
 -- What rules 1 to 5 make of the frame f, offered under the arrival number a.
 abbrev pub worked : ℕ → Channel → Piece → Work
-worked a c f = afterLoss a (lostSince (c .last) (f .count)) (c .inStep) (c .held) (f .pointer) (f .octets)
+worked a c f = afterLoss a (number (lostSince (c .last) (f .count))) (c .inStep) (c .held) (f .pointer) (f .octets)
 
 pub record Fields (a : ℕ) (c : Channel) (f : Piece) : Type 0 where
   pub lost : step a c f .lost ≡ lostSince (c .last) (f .count)

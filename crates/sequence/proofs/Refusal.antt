@@ -5,16 +5,16 @@ use mathlib.Core.Bool.{true, false, true≢false}
 use mathlib.Core.List.{List}
 use Rattle.octets.proofs.Choices.{picks}
 use Rattle.answer.specs.Told.{Told}
-use Rattle.sequence.specs.Sequence.{since, Outcome, outcome, RefusalLeavesAll}
+use Rattle.sequence.specs.Sequence.{Between, missing, since, Outcome, outcome, RefusalLeavesAll}
 
 -- the gap itself is never a refusal
 accepts : (held count : ℕ) → since held count .accepted ≡ true
 unfolding since
-accepts held count = picks (λ (t : Told ℕ). t .accepted ≡ true) _ _ _ (λ t. refl) (λ f. refl)
+accepts held count = picks (λ (t : Told Between). t .accepted ≡ true) _ _ _ (λ t. refl) (λ f. refl)
 
 module _ (apid count : ℕ) (before : List ℕ) where
   abbrev Leaves : Outcome → Type 0
-  Leaves o = o .answer .accepted ≡ false → (o .answer .fields ≡ 0) × (o .list ≡ before)
+  Leaves o = o .answer .accepted ≡ false → (o .answer .fields ≡ missing 0) × (o .list ≡ before)
 
   outcome-leaves : Leaves (outcome apid count before)
   unfolding outcome

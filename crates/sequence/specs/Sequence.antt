@@ -11,24 +11,30 @@ use Rattle.answer.specs.Told.{Told, accept, refuse}
 use Rattle.answer.specs.Refusals.{listShort, entry, countRange}
 use Rattle.counts.specs.Gap.{gap}
 use Rattle.sequence.specs.declared.Gap.{Gap}
-use Rattle.sequence.specs.declared.Gap.the-variants.{Missing, Refused}
+use Rattle.sequence.specs.declared.Gap.the-variants.{Unknown, Missing, Refused}
 
 -- One entry an APID.
 abbrev pub entries : ℕ
 entries = 2048
 
--- An answer tells how many are missing, or the refusal and 0.
-abbrev pub told : Gap → Told ℕ
-told (Missing n) = accept n
-told (Refused n) = refuse 0 n
+-- What lies between the last count and this one: unknown without a last count, else so many packets.
+pub data Between : Type 0 where
+  unknown : Between
+  missing : ℕ → Between
 
--- Missing: (count - last - 1) modulo 16,384, 0 at the first.
-unfoldable pub since : ℕ → ℕ → Told ℕ
-since held count = pick (eqb held 0) (accept 0) (accept (gap 16384 count (held - 1)))
+-- An answer tells it, or the refusal and 0.
+abbrev pub told : Gap → Told Between
+told Unknown = accept unknown
+told (Missing n) = accept (missing n)
+told (Refused n) = refuse (missing 0) n
+
+-- Missing: (count - last - 1) modulo 16,384, unknown at the first.
+unfoldable pub since : ℕ → ℕ → Told Between
+since held count = pick (eqb held 0) (accept unknown) (accept (missing (gap 16384 count (held - 1))))
 
 -- What the call answers, and the list as it leaves it: as it is to be, and as a caller observes it.
 pub record Outcome : Type 0 where
-  pub answer : Told ℕ
+  pub answer : Told Between
   pub list : List ℕ
 
 abbrev pub observed : Gap → List ℕ → Outcome
@@ -36,7 +42,7 @@ observed answer list = record { answer = told answer; list = list }
 
 -- A refusal: its number, and the list stays.
 abbrev pub refused : ℕ → List ℕ → Outcome
-refused n list = record { answer = refuse 0 n; list = list }
+refused n list = record { answer = refuse (missing 0) n; list = list }
 
 -- Refusals 44, 46, 45, and the list stays; else the gap, and that APID's entry becomes count + 1.
 unfoldable pub outcome : ℕ → ℕ → List ℕ → Outcome
@@ -50,4 +56,4 @@ outcome apid count list =
 abbrev pub RefusalLeavesAll : Type 0
 RefusalLeavesAll =
     (apid count : ℕ) (before : List ℕ) (answer : Gap) (after : List ℕ) → observed answer after ≡ outcome apid count before
-    → told answer .accepted ≡ false → (told answer .fields ≡ 0) × (after ≡ before)
+    → told answer .accepted ≡ false → (told answer .fields ≡ missing 0) × (after ≡ before)

@@ -6,18 +6,19 @@ ghost use Rattle.sequence.specs.Sequence.{told, since, observed, outcome
 // How many entries the list has, one an APID: the least length of what is lent for them.
 pub const LIST: usize = 2048;
 
-// What the source sequence count of one APID tells: how many packets are missing, or the refusal's number.
+// What the source sequence count of one APID tells: how many packets are missing, unknown at the first, or the refusal's number.
 pub enum Gap {
+    Unknown,
     Missing(u16),
     Refused(u16),
 }
 
-// The gap that a count leaves after an entry of the list: none at the first.
+// The gap that a count leaves after an entry of the list: unknown at the first.
 fn since(count: SequenceCount, entry: u16) -> Gap
     ensures { λ r. ⌜ told r ≡ since entry (count .0) ⌝ }
 {
     if entry == 0 {
-        return Gap::Missing(0);
+        return Gap::Unknown;
     }
     Gap::Missing(count.missing(SequenceCount(entry - 1)))
 }

@@ -8,7 +8,8 @@ use mathlib.Core.List.{List, [], _++_, append-nil}
 use lib.ListN.{length, take, drop, length-drop, drop-of-length-le}
 use lib.Seq.{take-all}
 use borrow.Author.Tests.{eq-eqb, ne-eqb}
-use Rattle.counts.specs.Lost.{lastOf, lostSince}
+use Rattle.counts.specs.declared.Loss.{Loss}
+use Rattle.counts.specs.Lost.{lastOf, lostSince, number}
 use Rattle.rules.specs.Channel.{heldOf, nothing, Work, outOfStep, holding, feed, fits, enter, follow, afterLoss, step}
 use Rattle.rules.specs.Bounds.{Sound}
 use Rattle.rules.specs.Packets.{bare}
@@ -54,14 +55,14 @@ carries-all c zero k b u h l ek eb =
     }))
 
 -- as the step of a channel has it
-pub steps : (c : Channel) (lost k : ℕ) (inStep : Bool) → Carries c lost k inStep → (a count pointer : ℕ) (xs : List ℕ) (r : Followed)
+pub steps : (c : Channel) (lost : Loss) (k : ℕ) (inStep : Bool) → Carries c (number lost) k inStep → (a count pointer : ℕ) (xs : List ℕ) (r : Followed)
     (l l′ : Lent) → lost ≡ lostSince (lastOf (c .heard) (c .last .0)) count
     → Follows count (follow a inStep (heldOf (take k (c .held))) pointer xs) r l l′
     → Heeds (step a (view c) (record { count = count; pointer = pointer; octets = xs })) (record { channel = r .channel; lost = lost; packets = r .packets }) l l′
 unfolding step view
 steps c lost k inStep w a count pointer xs r l l′ e h =
-    let work : follow a inStep (heldOf (take k (c .held))) pointer xs ≡ afterLoss a (lostSince (view c .last) count) (view c .inStep) (view c .held) pointer xs =
-    sym (w .work a pointer xs) ∙ ap (λ (n : ℕ). afterLoss a n (view c .inStep) (view c .held) pointer xs) e in
+    let work : follow a inStep (heldOf (take k (c .held))) pointer xs ≡ afterLoss a (number (lostSince (view c .last) count)) (view c .inStep) (view c .held) pointer xs =
+    sym (w .work a pointer xs) ∙ ap (λ (n : Loss). afterLoss a (number n) (view c .inStep) (view c .held) pointer xs) e in
     let g = subst (λ (x : Work). Follows count x r l l′) work h in
     record { channel = g .channel; lost = e; packets = g .packets; leaves = g .leaves }
 

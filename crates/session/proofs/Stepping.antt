@@ -8,6 +8,7 @@ use mathlib.Core.List.{List}
 use lib.ListN.{length, set}
 use Rattle.octets.specs.Pick.{pick}
 use Rattle.answer.specs.Told.{accept, refuse}
+use Rattle.counts.specs.declared.Loss.{Loss}
 use Rattle.counts.specs.Lost.{lastOf, lostSince}
 use Rattle.frame.specs.Frame.{noFrame, readFrame, dataOf}
 use Rattle.frame.specs.Back.{PointerRight, Accepted}
@@ -28,7 +29,7 @@ use Rattle.session.proofs.Admitting.{turnedDown, gives-refused}
 -- ---- an accepted frame
 
 -- c is the frame's channel, wherever it was read from
-module _ (s : Session) (f : Frame) (xs : List ℕ) (master : ℕ) (c : Channel) (ec : c ≡ channelAt s (f .channel))
+module _ (s : Session) (f : Frame) (xs : List ℕ) (master : Loss) (c : Channel) (ec : c ≡ channelAt s (f .channel))
     (em : master ≡ lostSince (lastOf (s .heard) (s .master .0)) (f .master .0)) (r : Heeded) (l l′ : Lent)
     (w : Heeds (step (s .arrival) (view c) (pieceOf f xs)) r l l′) where
   heeds : Heeds (ruled s f xs) r l l′

@@ -4,6 +4,7 @@ use mathlib.Core.Path.{_≡_}
 use mathlib.Core.List.{List, [], _∷_}
 use mathlib.Core.Bool.{false}
 use Rattle.answer.specs.Refusals as no
+use Rattle.counts.specs.declared.Loss.the-variants.{Known}
 use Rattle.frame.specs.Limits.{longestTime}
 use Rattle.session.specs.Lent.{Lent}
 use Rattle.session.specs.Open.{opening}
@@ -12,12 +13,12 @@ use Rattle.session.specs.declared.Session.{Session}
 use Rattle.session.specs.declared.Accepted.{Accepted}
 use Rattle.session.specs.declared.StepAnswer.{StepAnswer}
 
--- A refusal's answer holds its number and 0 in every other field.
+-- A refusal's answer holds its number and 0 in every other field, never unknown.
 pub record AllZero (a : Accepted) : Type 0 where
   pub arrival : a .arrival ≡ 0
   pub channel : a .channel ≡ 0
-  pub lost : a .lost ≡ 0
-  pub master : a .master ≡ 0
+  pub lost : a .lost ≡ Known 0
+  pub master : a .master ≡ Known 0
   pub packets : a .packets ≡ 0
 
 abbrev pub RefusalsTell0 : Type 0

@@ -10,6 +10,7 @@ use Rattle.answer.specs.Told.{Told, accept, refuse}
 use Rattle.answer.specs.Refusals as no
 use Rattle.frame.specs.Frame.{readFrame, dataOf}
 use Rattle.frame.specs.declared.Frame.{Frame}
+use Rattle.counts.specs.declared.Loss.the-variants.{Known}
 use Rattle.counts.specs.Lost.{lastOf, lostSince}
 use Rattle.rules.specs.Limits.{lastNumber}
 use Rattle.rules.specs.Channel.{Piece, Handed, Answer, step}
@@ -24,7 +25,7 @@ use Rattle.session.specs.declared.StepAnswer.the-variants as answer
 
 -- Every field 0.
 abbrev pub nothingTold : Accepted
-nothingTold = record { arrival = 0; channel = 0; lost = 0; master = 0; packets = 0 }
+nothingTold = record { arrival = 0; channel = 0; lost = Known 0; master = Known 0; packets = 0 }
 
 abbrev pub told : StepAnswer → Told Accepted
 told (answer.Accepted a) = accept a

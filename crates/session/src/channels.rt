@@ -11,13 +11,14 @@ ghost use Rattle.session.specs.Promised.{inStepIf, Follows, Heeds};
 use super::Channel;
 use super::cutting;
 use counts::ChannelCount;
+use counts::Loss;
 use frame::Frame;
 use packet::Packet;
 
 // A channel after a frame, how many were lost before it, and how many packets were handed out.
 pub(crate) struct Heeded {
     pub channel: Channel,
-    pub lost: u8,
+    pub lost: Loss,
     pub packets: u8,
 }
 
@@ -114,7 +115,7 @@ impl Channel {
         let lost = count.lost(self.heard, last);
         let mut k = self.length as usize;
         let mut instep = self.instep;
-        if 0 < lost {
+        if 0 < lost.number() {
             k = 0;
             instep = false;
         }

@@ -5,6 +5,7 @@ ghost use Rattle.session.specs.Open.{opened, Opens};
 ghost use Rattle.session.specs.Lent.{lent, scant};
 ghost use Rattle.session.specs.Step.{Steps, TurnsAway};
 use counts::ChannelCount;
+use counts::Loss;
 use counts::MasterCount;
 use frame::Frame;
 use frame::FrameRead;
@@ -46,8 +47,8 @@ pub struct Opened {
 pub struct Accepted {
     pub arrival: u32,
     pub channel: u8,
-    pub lost: u8,
-    pub master: u8,
+    pub lost: Loss,
+    pub master: Loss,
     pub packets: u8,
 }
 
@@ -155,10 +156,11 @@ impl Session {
                     self.channels[i] = channel;
                     self.master = master;
                     self.heard = true;
+                    let on = heeded.lost;
                     answer = StepAnswer::Accepted(Accepted {
                         arrival: self.arrival,
                         channel: f.channel,
-                        lost: heeded.lost,
+                        lost: on,
                         master: lost,
                         packets: heeded.packets,
                     });

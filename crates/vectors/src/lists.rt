@@ -18,6 +18,7 @@ pub(crate) fn missing(c: &[u8], list: &mut [u16]) {
     let apid = input::word(c, places::APID);
     enter(list, apid as usize, input::word(c, places::ENTRY));
     match sequence::missing(apid, SequenceCount(input::word(c, places::SEQUENCE)), list) {
+        Gap::Unknown => text::say(b"accepted missing unknown"),
         Gap::Missing(n) => text::field(b"accepted missing ", n as u64),
         Gap::Refused(n) => text::field(b"refusal ", n as u64),
     }

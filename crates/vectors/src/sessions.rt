@@ -3,6 +3,7 @@ use crate::input;
 use crate::places;
 use crate::text;
 use counts::ChannelCount;
+use counts::Loss;
 use counts::MasterCount;
 use session::Channel;
 use session::OpenAnswer;
@@ -98,6 +99,17 @@ pub(crate) fn given(c: &[u8]) -> Session {
     s
 }
 
+// Prints how many frames were lost.
+fn loss(name: &[u8], l: Loss) {
+    match l {
+        Loss::Unknown => {
+            text::say(name);
+            text::say(b"unknown");
+        }
+        Loss::Known(n) => text::field(name, n as u64),
+    }
+}
+
 pub(crate) fn step(c: &[u8], s: Session, octets: &mut [u8], lengths: &mut [u16]) -> Session {
     let stepped = s.step(input::block(c, places::INPUT), octets, lengths);
     let answer = stepped.answer;
@@ -105,15 +117,14 @@ pub(crate) fn step(c: &[u8], s: Session, octets: &mut [u8], lengths: &mut [u16])
     match answer {
         StepAnswer::Accepted(a) => {
             text::tell(
-                b"accepted arrival # channel # lost # master # packets #",
-                &[
-                    a.arrival as u64,
-                    a.channel as u64,
-                    a.lost as u64,
-                    a.master as u64,
-                    a.packets as u64,
-                ],
+                b"accepted arrival # channel #",
+                &[a.arrival as u64, a.channel as u64],
             );
+            let lost = a.lost;
+            let master = a.master;
+            loss(b" lost ", lost);
+            loss(b" master ", master);
+            text::field(b" packets ", a.packets as u64);
         }
         StepAnswer::Refused(n) => text::field(b"refusal ", n as u64),
     }

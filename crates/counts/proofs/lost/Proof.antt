@@ -6,7 +6,7 @@ use Rattle.counts.proofs.lost.Tie as tie
 
 returns : tie.Need-returns
 unfolding lostSince
-returns c = simp (c .before .if1 .taken) (c .gap .ensures)
+returns c = simp (c .before .if1 .taken, c .gap .ensures)
 
 returns-2 : tie.Need-returns-2
 unfolding lostSince

@@ -3,7 +3,7 @@ use mathlib.Core.Path.{refl}
 use mathlib.Core.List.{[], _∷_}
 use Rattle.lines.specs.Text.{acceptedLine}
 use Rattle.decimal.proofs.Laid.{resaid}
-use Rattle.lines.proofs.Lines.{numbers-then}
+use Rattle.lines.proofs.Lines.{losses-then}
 use native.Mathlib.Omega.{arith}
 use borrow.Author.Needs.{needs}
 use Rattle.lines.proofs.accepted.Statement.{statement}
@@ -11,11 +11,19 @@ use Rattle.lines.proofs.accepted.Tie as tie
 
 returns : tie.Need-returns
 unfolding acceptedLine
-returns c = resaid refl (omega arith) (numbers-then (c .before .before .before .before .before .before .before .before .before .before .before .before .before .before .args .arrival ∷ 0 ∷ c .before .before .before .before .before .before .before .before .before .before .before .before .before .before .args .a .channel ∷ c .before .before .before .before .before .before .before .before .before .before .before .before .before .before .args .a .lost ∷ c .before .before .before .before .before .before .before .before .before .before .before .before .before .before .args .a .master ∷ []) (c .before .before .before .before .before .before .before .before .before .before .before .before .before .before .args .a .packets) 10 (omega (arith, c .before .before .before .before .before .before .before .before .before .before .before .before .before .before .pre)) (c .before .before .before .before .before .before .before .numbers .kept .0) (c .before .before .before .before .before .before .before .numbers .ensures) (c .before .before .number .ensures))
+returns c =
+    let start = c .before .before .before .before .before .before .before .before .before .before .before .before .before .before .before .before .before .before .before .before in
+    let args = start .args in
+    let numbers = c .before .before .before .before .before .before .before .before .before .before .before .before .before .before .before .numbers in
+    let lost = c .before .before .before .before .before .before .before .before .before .before .before .loss in
+    let master = c .before .before .before .before .before .before .before .loss2 in
+    resaid refl (omega arith)
+    (losses-then (args .arrival ∷ 0 ∷ args .a .channel ∷ []) (args .a .lost) (args .a .master) (args .a .packets)
+    (numbers .ensures) (lost .ensures) (master .ensures) (c .before .before .number .ensures) (omega (arith, start .pre))
+    (numbers .kept .0) (lost .kept .0) (master .kept .0))
 
 pub accepted-spec : {M : Type 1} → statement M
 accepted-spec =
     tie.close
     (tie.spec
-    (λ c. search needs) (λ c. search needs) (λ c. search needs) (λ c. search needs) (λ c κs. search needs)
-    (λ c. search needs) (λ c κs. search needs) (λ c. search needs) returns)
+    (λ c. search needs) (λ c. search needs) (λ c κs. search needs) (λ c κs. search needs) (λ c κs. search needs) (λ c. search needs) (λ c κs. search needs) (λ c. search needs) returns)

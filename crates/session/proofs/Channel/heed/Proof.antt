@@ -1,33 +1,40 @@
 -- `Channel::heed` meets its contract.
+use native.Mathlib.Omega.{arith}
 use borrow.Author.Needs.{needs}
 use mathlib.Core.Path.{_≡_, sym}
 use mathlib.Core.Logic.{⊎-elim}
 use lib.ListN.{length}
 use lib.Seq.{length-take-le}
+use Rattle.counts.specs.Lost.{number}
 use Rattle.session.proofs.Following.{Carries, carries-none, carries-all, steps}
 use Rattle.session.proofs.Channel.heed.Statement.{statement}
 use Rattle.session.proofs.Channel.heed.Tie as tie
 
+abbrev start : tie.Joined1 → tie.Start
+start c = c .before .before .before .before .before .before .before .before .before
+
 -- what rules 2 to 5 go on from, whether frames were lost or not
-carried : (c : tie.Joined1) → Carries (c .before .before .before .before .before .before .before .before .args .self) (c .before .before .lost .result) (c .if1 .k) (c .if1 .instep)
+carried : (c : tie.Joined1) → Carries (start c .args .self) (number (c .before .before .before .lost .result)) (c .if1 .k) (c .if1 .instep)
 carried c =
-    let s = c .before .before .before .before .before .before .before .before in
+    let s = start c in
+    let n = c .before .number .ensures in
     let l : length (s .args .self .held) ≡ 250 = search needs in
     ⊎-elim
-    (λ w. carries-none (s .args .self) (c .before .before .lost .result) (c .if1 .k) (c .if1 .instep) (w .0 .taken) (w .1) (w .2))
-    (λ w. carries-all (s .args .self) (c .before .before .lost .result) (c .if1 .k) (c .if1 .instep) (s .pre .sound) l (w .0 .left) (w .1) (w .2))
+    (λ w. carries-none (s .args .self) _ (c .if1 .k) (c .if1 .instep) (omega (arith, n, w .0 .taken)) (w .1) (w .2))
+    (λ w. carries-all (s .args .self) _ (c .if1 .k) (c .if1 .instep) (s .pre .sound) l (omega (arith, n, w .0 .left)) (w .1) (w .2))
     (c .if1 .came)
 
 returns : tie.Need-returns
 returns c n =
     let j = c .before .before .before .before .before .before .before .before .before in
-    let a = j .before .before .before .before .before .before .before .before .args in
+    let a = start j .args in
     let f = c .before .before .before .before .before .follow in
-    steps (a .self) (j .before .before .lost .result) (j .if1 .k) (j .if1 .instep) (carried j) n (a .count .0) (a .pointer) (a .«data» .now) (f .result) _ _ (j .before .before .lost .ensures) (f .ensures n)
+    steps (a .self) (j .before .before .before .lost .result) (j .if1 .k) (j .if1 .instep) (carried j) n (a .count .0) (a .pointer) (a .«data» .now) (f .result) _ _
+    (j .before .before .before .lost .ensures) (f .ensures n)
 
 pub heed-spec : {M : Type 1} → statement M
 heed-spec =
     tie.close
     (tie.spec
-    (λ c κs. search needs) (λ c. search needs) (λ c. carried c .within) (λ c. sym (length-take-le _ _ (carried (c .before) .within)))
-    (λ c κs. record { sound = carried (c .before .before .before) .sound; heard = c .before .before .before .before .before .before .before .before .before .before .before .pre .heard }) (λ c. search needs) (λ c. search needs) returns)
+    (λ c κs. search needs) (λ c. search needs) (λ c κs. search needs) (λ c. carried c .within) (λ c. sym (length-take-le _ _ (carried (c .before) .within)))
+    (λ c κs. record { sound = carried (c .before .before .before) .sound; heard = start (c .before .before .before) .pre .heard }) (λ c. search needs) (λ c. search needs) returns)
