@@ -1,3 +1,4 @@
 pub mod Told
 pub mod Refusal
 pub mod Unique
+pub mod EachWhen

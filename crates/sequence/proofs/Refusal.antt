@@ -8,9 +8,12 @@ use Rattle.answer.specs.Told.{Told}
 use Rattle.sequence.specs.Sequence.{Between, missing, since, Outcome, outcome, RefusalLeavesAll}
 
 -- the gap itself is never a refusal
-accepts : (held count : ℕ) → since held count .accepted ≡ true
+abbrev Accepts : Told Between → Type 0
+Accepts t = t .accepted ≡ true
+
+accepts : (held count : ℕ) → Accepts (since held count)
 unfolding since
-accepts held count = picks (λ (t : Told Between). t .accepted ≡ true) _ _ _ (λ t. refl) (λ f. refl)
+accepts held count = picks Accepts _ _ _ (λ t. refl) (λ f. picks Accepts _ _ _ (λ t. refl) (λ g. refl))
 
 module _ (apid count : ℕ) (before : List ℕ) where
   abbrev Leaves : Outcome → Type 0

@@ -1,23 +1,36 @@
 -- No two answers, with what they leave, are told alike.
 use Prim.Native.Nat.{ℕ}
 use native.Mathlib.Omega.{arith}
-use mathlib.Core.Path.{_≡_, refl, sym, ap}
+use mathlib.Core.Path.{_≡_, refl, ap}
 use mathlib.Core.List.{List}
 use Rattle.answer.proofs.Told.{same-fields, same-refusal, accept-or-refuse, refuse-or-accept}
-use Rattle.sequence.specs.Sequence.{unknown, missing, told, Outcome, observed}
+use Rattle.sequence.specs.Sequence.{Between, unknown, restart, missing, told, Outcome, observed}
 use Rattle.sequence.specs.declared.Gap.{Gap}
-use Rattle.sequence.specs.declared.Gap.the-variants.{Unknown, Missing, Refused}
+use Rattle.sequence.specs.declared.Gap.the-variants.{Unknown, Restart, Missing, Refused}
 
-not-known : {A : Type 0} {n : ℕ} → unknown ≡ missing n → A
-not-known e = let z : _≡_ {A = ℕ} 0 1 = cc in absurd (omega arith)
+-- which of the three it is
+abbrev kind : Between → ℕ
+kind unknown = 0
+kind restart = 1
+kind (missing n) = 2
+
+other : {A : Type 0} {x y : Between} → x ≡ y → (kind x ≡ kind y → ⊥) → A
+other e n = absurd (n (ap kind e))
 
 same-missing : {n m : ℕ} → missing n ≡ missing m → n ≡ m
 same-missing e = cc
 
 pub told-apart : (x y : Gap) → told x ≡ told y → x ≡ y
 told-apart Unknown Unknown h = refl
-told-apart Unknown (Missing m) h = not-known (same-fields h)
-told-apart (Missing n) Unknown h = not-known (sym (same-fields h))
+told-apart Restart Restart h = refl
+told-apart Unknown Restart h = other (same-fields h) (λ z. omega arith)
+told-apart Restart Unknown h = other (same-fields h) (λ z. omega arith)
+told-apart Unknown (Missing m) h = other (same-fields h) (λ z. omega arith)
+told-apart (Missing n) Unknown h = other (same-fields h) (λ z. omega arith)
+told-apart Restart (Missing m) h = other (same-fields h) (λ z. omega arith)
+told-apart (Missing n) Restart h = other (same-fields h) (λ z. omega arith)
+told-apart Restart (Refused m) h = accept-or-refuse h
+told-apart (Refused n) Restart h = refuse-or-accept h
 told-apart Unknown (Refused m) h = accept-or-refuse h
 told-apart (Refused n) Unknown h = refuse-or-accept h
 told-apart (Missing n) (Missing m) h = ap Missing (same-missing (same-fields h))

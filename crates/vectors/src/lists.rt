@@ -19,6 +19,7 @@ pub(crate) fn missing(c: &[u8], list: &mut [u16]) {
     enter(list, apid as usize, input::word(c, places::ENTRY));
     match sequence::missing(apid, SequenceCount(input::word(c, places::SEQUENCE)), list) {
         Gap::Unknown => text::say(b"accepted missing unknown"),
+        Gap::Restart => text::say(b"accepted missing restart"),
         Gap::Missing(n) => text::field(b"accepted missing ", n as u64),
         Gap::Refused(n) => text::field(b"refusal ", n as u64),
     }
