@@ -1,16 +1,12 @@
 // Runs the cases that stand on standard input through the public calls, and prints one line a case.
-mod frames;
-mod input;
-mod kinds;
-mod lists;
-mod packets;
-mod places;
-mod readings;
-mod reports;
-mod sessions;
-mod text;
-
+use format_cases::frames;
+use format_cases::packets;
+use format_cases::reports;
 use libc::STDIN_FILENO;
+use records::input;
+use records::kinds;
+use records::places;
+use records::text;
 use session::Session;
 
 // Runs a case of a call without a session by its kind, on what is lent to it.
@@ -19,16 +15,16 @@ fn format(c: &[u8], octets: &mut [u8], words: &mut [u16], fours: &mut [u32]) {
     match input::octet(c, places::KIND) {
         kinds::PACKET_CHECK => text::check(b"accepted ", crc::packet_check(input)),
         kinds::FRAME_CHECK => text::check(b"accepted ", crc::frame_check(input)),
-        kinds::SEQUENCE => lists::missing(c, words),
+        kinds::SEQUENCE => list_cases::missing(c, words),
         kinds::PACKET_READER => packets::read(input),
         kinds::PACKET_WRITER => packets::write(c, octets),
         kinds::FRAME_READER => frames::read(c),
         kinds::FRAME_WRITER => frames::write(c, octets),
-        kinds::PLACING => lists::place(c, octets, fours),
+        kinds::PLACING => list_cases::place(c, octets, fours),
         kinds::REPORT_READER => reports::read(c),
         kinds::REPORT_WRITER => reports::write(c, octets),
-        kinds::HOUSEKEEPING_READER => readings::read(c, octets, words, fours),
-        kinds::HOUSEKEEPING_WRITER => readings::write(c, octets),
+        kinds::HOUSEKEEPING_READER => reading_cases::read(c, octets, words, fours),
+        kinds::HOUSEKEEPING_WRITER => reading_cases::write(c, octets),
         _ => text::say(b"no such kind"),
     }
 }
@@ -36,9 +32,9 @@ fn format(c: &[u8], octets: &mut [u8], words: &mut [u16], fours: &mut [u32]) {
 // Runs a case by its kind, and answers the session for the next.
 fn run(c: &[u8], s: Session, octets: &mut [u8], words: &mut [u16], fours: &mut [u32]) -> Session {
     match input::octet(c, places::KIND) {
-        kinds::SESSION_OPEN => sessions::open(c),
-        kinds::SESSION => sessions::given(c),
-        kinds::SESSION_STEP => sessions::step(c, s, octets, words),
+        kinds::SESSION_OPEN => session_cases::open(c),
+        kinds::SESSION => session_cases::given(c),
+        kinds::SESSION_STEP => session_cases::step(c, s, octets, words),
         _ => {
             format(c, octets, words, fours);
             s

@@ -1,0 +1,30 @@
+// The number of each kind of case. Written by tools/vectors.
+pub const PACKET_CHECK: u8 = 1;
+
+pub const FRAME_CHECK: u8 = 2;
+
+pub const SEQUENCE: u8 = 3;
+
+pub const PACKET_READER: u8 = 4;
+
+pub const PACKET_WRITER: u8 = 5;
+
+pub const FRAME_READER: u8 = 6;
+
+pub const FRAME_WRITER: u8 = 7;
+
+pub const PLACING: u8 = 8;
+
+pub const REPORT_READER: u8 = 9;
+
+pub const REPORT_WRITER: u8 = 10;
+
+pub const HOUSEKEEPING_READER: u8 = 11;
+
+pub const HOUSEKEEPING_WRITER: u8 = 12;
+
+pub const SESSION_OPEN: u8 = 13;
+
+pub const SESSION: u8 = 14;
+
+pub const SESSION_STEP: u8 = 15;
