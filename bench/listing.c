@@ -151,8 +151,14 @@ static int frame_refusal(const u8 *f, size_t n, size_t t)
         return 10;
     if (frame_check(f, n - 2) != ((u32)f[n - 1] << 8 | f[n - 2]))
         return 11;
-    if (!address(f, 0) || !address(f + 7, 1) || f[14] != 0x03 || f[15] != 0xF0)
-        return 12;
+    if (!address(f, 0))
+        return 120;
+    if (!address(f + 7, 1))
+        return 121;
+    if (f[14] != 0x03)
+        return 122;
+    if (f[15] != 0xF0)
+        return 123;
     if (f[HEADER] & 0xC7)
         return 13;
     if ((f[n - 3 - t] & 0xFC) != (t ? (7 + t) << 4 : 0))

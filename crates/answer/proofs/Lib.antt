@@ -1,3 +1,4 @@
 pub mod Told
 pub mod Writer
 pub mod Back
+pub mod Unique

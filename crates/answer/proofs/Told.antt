@@ -2,7 +2,8 @@
 use Prim.Native.Nat.{ℕ}
 use mathlib.Core.Path.{_≡_, ap}
 use mathlib.Core.Bool.{true≢false, false≢true}
-use Rattle.answer.specs.Told.{Told, accept, refuse}
+use Rattle.answer.specs.Told.{Told, accept, refuse, refuseAt}
+use Rattle.answer.specs.declared.Refusal.{Refusal}
 
 -- equal values are told alike
 pub accept-same : {A : Type 0} {a b : A} → a ≡ b → accept a ≡ accept b
@@ -14,9 +15,17 @@ same-fields {A} h = ap (λ (t : Told A). t .fields) h
 pub same-refusal : {A : Type 0} {none : A} {m n : ℕ} → refuse none m ≡ refuse none n → m ≡ n
 same-refusal {A} h = ap (λ (t : Told A). t .refusal) h
 
+-- of refusals that tell an octet: number and octet
+pub same-refusal-at : {A : Type 0} {none : A} (x y : Refusal)
+    → refuseAt none (x .number) (x .octet) ≡ refuseAt none (y .number) (y .octet) → x ≡ y
+same-refusal-at {A} x y h =
+    let same : _≡_ {A = Refusal} (record { number = x .number; octet = x .octet }) (record { number = y .number; octet = y .octet }) =
+    simp (ap (λ (t : Told A). t .refusal) h, ap (λ (t : Told A). t .octet) h) in
+    same
+
 -- accepted and refused are never told alike
-pub accept-or-refuse : {A B : Type 0} {a none : A} {n : ℕ} → accept a ≡ refuse none n → B
+pub accept-or-refuse : {A B : Type 0} {a none : A} {n octet : ℕ} → accept a ≡ refuseAt none n octet → B
 accept-or-refuse {A} h = absurd (true≢false (ap (λ (t : Told A). t .accepted) h))
 
-pub refuse-or-accept : {A B : Type 0} {a none : A} {n : ℕ} → refuse none n ≡ accept a → B
+pub refuse-or-accept : {A B : Type 0} {a none : A} {n octet : ℕ} → refuseAt none n octet ≡ accept a → B
 refuse-or-accept {A} h = absurd (false≢true (ap (λ (t : Told A). t .accepted) h))

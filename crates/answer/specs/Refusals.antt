@@ -1,4 +1,4 @@
--- Document 01, 'Numbers given when something is turned away', in its order; then document 02's.
+-- Document 01, 'Numbers given when something is turned away', in its order; of document 02, 120 to 123 in the place of 12, and the others behind.
 use Prim.Native.Nat.{ℕ}
 
 -- Under 501 octets or under 16 lengths lent.
@@ -25,9 +25,21 @@ frameLength = 10
 abbrev pub frameCheck : ℕ
 frameCheck = 11
 
--- Address, control or protocol octet wrong.
-abbrev pub frameAddress : ℕ
-frameAddress = 12
+-- Destination address wrong.
+abbrev pub frameDestination : ℕ
+frameDestination = 120
+
+-- Source address wrong.
+abbrev pub frameSource : ℕ
+frameSource = 121
+
+-- Control octet wrong.
+abbrev pub frameControl : ℕ
+frameControl = 122
+
+-- Protocol octet wrong.
+abbrev pub frameProtocol : ℕ
+frameProtocol = 123
 
 -- Frame version or spare not 0.
 abbrev pub frameVersion : ℕ

@@ -1,22 +1,31 @@
--- What an answer tells: whether it accepts, the refusal's number, and the values.
+-- What an answer tells: whether it accepts, the refusal's number and the octet that is wrong, and the values.
 use Prim.Native.Nat.{ℕ}
 use mathlib.Core.Path.{_≡_}
 use mathlib.Core.List.{List, [], _∷_}
 use mathlib.Core.Bool.{Bool, true, false, _&&_}
 use lib.Dec.{eqb}
+use Rattle.answer.specs.declared.Refusal.{Refusal}
 
 pub record Told (A : Type 0) : Type 0 where
   pub accepted : Bool
   pub refusal : ℕ
+  pub octet : ℕ
   pub fields : A
 
 -- Accepted: no refusal, and the values.
 abbrev pub accept : {A : Type 0} → A → Told A
-accept a = record { accepted = true; refusal = 0; fields = a }
+accept a = record { accepted = true; refusal = 0; octet = 0; fields = a }
 
--- Refused: the number, and 0 in every other field (none says what that is).
+-- Refused: the number, the octet, and 0 in every other field (none says what that is).
+abbrev pub refuseAt : {A : Type 0} → A → ℕ → ℕ → Told A
+refuseAt none n octet = record { accepted = false; refusal = n; octet = octet; fields = none }
+
+-- Of most refusals no octet is told: it is 0.
 abbrev pub refuse : {A : Type 0} → A → ℕ → Told A
-refuse none n = record { accepted = false; refusal = n; fields = none }
+refuse none n = refuseAt none n 0
+
+abbrev pub plain : ℕ → Refusal
+plain n = record { number = n; octet = 0 }
 
 -- A refusal's answer holds its number and 0 in every other field: these are the numbers of the fields.
 abbrev pub allZero : List ℕ → Bool

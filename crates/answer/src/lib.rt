@@ -1,4 +1,6 @@
-// The paper's refusal numbers, in the order of its table, and the answer of every writer.
+// The paper's refusal numbers, in the order of its table, a refusal that tells an octet, and the answer of every writer.
+ghost use mathlib.Core.Path.{_≡_};
+ghost use Rattle.answer.specs.Told.{plain};
 
 // Under 501 octets or under 16 lengths lent.
 pub const ROOM: u16 = 1;
@@ -13,8 +15,14 @@ pub const SESSION: u16 = 4;
 pub const FRAME_LENGTH: u16 = 10;
 // Frame check wrong.
 pub const FRAME_CHECK: u16 = 11;
-// Address, control or protocol octet wrong.
-pub const FRAME_ADDRESS: u16 = 12;
+// Destination address wrong.
+pub const FRAME_DESTINATION: u16 = 120;
+// Source address wrong.
+pub const FRAME_SOURCE: u16 = 121;
+// Control octet wrong.
+pub const FRAME_CONTROL: u16 = 122;
+// Protocol octet wrong.
+pub const FRAME_PROTOCOL: u16 = 123;
 // Frame version or spare not 0.
 pub const FRAME_VERSION: u16 = 13;
 // Time flag isn't t's, or status spare not 0.
@@ -66,6 +74,21 @@ pub const LAYOUT_WIDTH: u16 = 61;
 pub const SEQUENCES: u16 = 62;
 // Readings: not (3,25).
 pub const NOT_HOUSEKEEPING: u16 = 63;
+
+// A refusal of a frame: its number, and the octet of the frame that is wrong, 0 where none is told.
+pub struct Refusal {
+    pub number: u16,
+    pub octet: u8,
+}
+
+impl Refusal {
+    // The refusal of this number that tells no octet.
+    pub fn plain(number: u16) -> Refusal
+        ensures { λ r. ⌜ r ≡ plain number ⌝ }
+    {
+        Refusal { number, octet: 0 }
+    }
+}
 
 // What a writer answers: how many octets it wrote, or the refusal's number.
 pub enum Written {

@@ -7,6 +7,7 @@ use native.Mathlib.Omega.{arith}
 use lib.ListN.{replicate, length-replicate}
 use Rattle.octets.proofs.Choices.{picks}
 use Rattle.answer.specs.Told.{Told}
+use Rattle.answer.specs.declared.Refusal.{Refusal}
 use Rattle.frame.specs.declared.Frame.{Frame}
 use Rattle.frame.specs.Frame.{readFrame}
 use Rattle.rules.specs.Limits.{mostPackets, mostOctets}
@@ -21,12 +22,15 @@ use Rattle.session.proofs.Admitting.{admitted-picks}
 use Rattle.delivery.specs.Run.{Call, Runs, Room, offerOf}
 
 -- the answer that tells this
-abbrev telling : Bool → ℕ → Accepted → StepAnswer
-telling true n a = answer.Accepted a
-telling false n a = answer.Refused n
+abbrev either : Bool → Refusal → Accepted → StepAnswer
+either true r a = answer.Accepted a
+either false r a = answer.Refused r
+
+abbrev telling : Told Accepted → StepAnswer
+telling a = either (a .accepted) (record { number = a .refusal; octet = a .octet }) (a .fields)
 
 abbrev Tells : Told Accepted → Type 0
-Tells a = told (telling (a .accepted) (a .refusal) (a .fields)) ≡ a
+Tells a = told (telling a) ≡ a
 
 abbrev Says : Outcome → Type 0
 Says o = Tells (o .answer)
@@ -54,7 +58,7 @@ module _ (s : Session) (x : Stretch) where
   calling = record {
     offer = x;
     lent = zeros;
-    result = record { session = made .session; answer = telling (made .answer .accepted) (made .answer .refusal) (made .answer .fields) };
+    result = record { session = made .session; answer = telling (made .answer) };
     left = laid (made .packets) zeros;
   }
 

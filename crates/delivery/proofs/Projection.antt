@@ -16,7 +16,7 @@ use Rattle.rules.specs.Limits.{lastNumber}
 use Rattle.rules.specs.Channel as rules
 use Rattle.session.specs.declared.Session.{Session}
 use Rattle.session.specs.Channel.{view, unsound}
-use Rattle.session.specs.Step.{Outcome, refused, counted, channelAt, pieceOf, ruled, accepted, outcome, turnedAway, Gives}
+use Rattle.session.specs.Step.{Outcome, refusedAt, refused, counted, channelAt, pieceOf, ruled, accepted, outcome, turnedAway, Gives}
 use Rattle.session.specs.Statements.{Stretch, found, unread, offered}
 use Rattle.session.proofs.Admitting.{roomy}
 use Rattle.session.proofs.Staying.{Stays, offer-stays}
@@ -63,10 +63,10 @@ module _ (t v : ℕ) (c : Call) (cs : List Call) (s : Session) where
       ∙ ap (run (view (channelAt s v))) (used-up t v (s .arrival) xs e ∙ sym (used-up t v (s .arrival) (x ∷ xs) e))
 
   -- nothing is for v: the frame was refused, or the stretch before it could be read
-  case-refused : (x : Stretch) (n : ℕ) → eqb (s .arrival) lastNumber ≡ false → offerFor t v (s .arrival + 1) x ≡ []
-      → Given (refused (counted s) n) → Rest (refused (counted s) n) → Right x
-  case-refused x n e none g r =
-      ap (λ (l : List Report). l ++ reportsOf v cs) (call-says v c (refused (counted s) n) g)
+  case-refused : (x : Stretch) (n octet : ℕ) → eqb (s .arrival) lastNumber ≡ false → offerFor t v (s .arrival + 1) x ≡ []
+      → Given (refusedAt (counted s) n octet) → Rest (refusedAt (counted s) n octet) → Right x
+  case-refused x n octet e none g r =
+      ap (λ (l : List Report). l ++ reportsOf v cs) (call-says v c (refusedAt (counted s) n octet) g)
       ∙ r
       ∙ ap (run (view (channelAt s v)))
       (sym (numbered t v (s .arrival) x xs e ∙ ap (λ (l : List channels.Offer). l ++ offersOf t v (s .arrival + 1) xs) none))
@@ -171,8 +171,9 @@ module _ (t v : ℕ) where
   unfolding outcome pick
   heard c cs rec s r k x w ws false a =
       let n : ℕ = readFrame t x .refusal in
-      by-number c cs rec s r k (found x) w ws (refused (counted s) n)
-      (roomy s (c .lent) _ (k .0) (r .sound) ∙ rw (r .time, a)) refl (λ e. case-refused t v c cs s (found x) n e (rw a))
+      let octet : ℕ = readFrame t x .octet in
+      by-number c cs rec s r k (found x) w ws (refusedAt (counted s) n octet)
+      (roomy s (c .lent) _ (k .0) (r .sound) ∙ rw (r .time, a)) refl (λ e. case-refused t v c cs s (found x) n octet e (rw a))
   heard c cs rec s r k x w ws true a =
       let f : Frame = readFrame t x .fields in
       by-number c cs rec s r k (found x) w ws (accepted (counted s) f (dataOf f x))
@@ -185,7 +186,7 @@ module _ (t v : ℕ) where
   any c cs rec s r k (found x) w ws = heard c cs rec s r k x w ws (readFrame t x .accepted) refl
   any c cs rec s r k (unread n) w ws =
       by-number c cs rec s r k (unread n) w ws (refused (counted s) n) (roomy s (c .lent) _ (k .0) (r .sound)) refl
-      (λ e. case-refused t v c cs s (unread n) n e refl)
+      (λ e. case-refused t v c cs s (unread n) n 0 e refl)
 
   pub projects : (cs : List Call) → Projects cs
   projects [] s r w k = refl

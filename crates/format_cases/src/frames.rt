@@ -1,5 +1,6 @@
 // The frame reader and writer.
 use crate::packets;
+use answer::Refusal;
 use counts::ChannelCount;
 use counts::MasterCount;
 use frame::Address;
@@ -36,6 +37,11 @@ fn print(f: Frame) {
     address(b" source ", source);
 }
 
+// Prints a refusal with its octet.
+pub fn refused(r: Refusal) {
+    text::tell(b"refusal # octet #", &[r.number as u64, r.octet as u64]);
+}
+
 pub fn read(c: &[u8]) {
     let t = input::octet(c, places::T);
     let octets = input::block(c, places::INPUT);
@@ -45,7 +51,7 @@ pub fn read(c: &[u8]) {
             text::hex(b" data ", f.data(octets));
             text::hex(b" time ", f.time(t, octets));
         }
-        FrameRead::Refused(n) => text::field(b"refusal ", n as u64),
+        FrameRead::Refused(r) => refused(r),
     }
 }
 

@@ -18,7 +18,7 @@ use Rattle.bits.specs.Rows.{ones}
 use Rattle.bits.specs.Rows.Order.{lowFirst}
 use Rattle.crc.specs.Check.{checkWrong}
 use Rattle.frame.specs.Address.{addressWrong}
-use Rattle.frame.specs.Frame.{lengthWrong, headWrong, versionWrong, flagOf, statusWrong, pointerWrong, dataLength, statusOf, frameOf, readWhole, readFrame}
+use Rattle.frame.specs.Frame.{lengthWrong, controlWrong, protocolWrong, versionWrong, flagOf, statusWrong, pointerWrong, dataLength, statusOf, frameOf, readInformation, readHeader, readFrame}
 use Rattle.frame.specs.Back.{PointerRight, Accepted, Accepts}
 use Rattle.frame.specs.declared.Frame.{Frame}
 
@@ -38,21 +38,19 @@ pub record Passed (t : ℕ) (s : List ℕ) : Type 0 where
   pub quiet : statusOf t s / 4 % 4 ≡ 0
   pub pointer : pointerWrong (at s 19) (dataLength t s) ≡ false
 
--- the two addresses' tests are kept whole
-head-facts : (a b : Bool) (x y : ℕ) → (a || b || not (eqb x 3) || not (eqb y 240)) ≡ false → (a ≡ false) × (b ≡ false) × (x ≡ 3) × (y ≡ 240)
-head-facts a b x y h = search facts
-
 pub passed : (t : ℕ) (s : List ℕ) (f : Frame) → readFrame t s ≡ accept f → Passed t s × (frameOf t s ≡ f)
-unfolding readFrame readWhole headWrong statusWrong
+unfolding readFrame readHeader readInformation statusWrong
 passed t s f h =
     let h₁ = not-picked (ltb 8 t) _ _ _ h refuse-or-accept in
     let h₂ = not-picked (lengthWrong t (length s)) _ _ _ (h₁ .1) refuse-or-accept in
     let h₃ = not-picked (checkWrong lowFirst (ones 16) s) _ _ _ (h₂ .1) refuse-or-accept in
-    let h₄ = not-picked (headWrong s) _ _ _ (h₃ .1) refuse-or-accept in
+    let to = not-picked (addressWrong (take 7 s) 0) _ _ _ (h₃ .1) refuse-or-accept in
+    let from = not-picked (addressWrong (take 7 (drop 7 s)) 1) _ _ _ (to .1) refuse-or-accept in
+    let c = not-picked (controlWrong (at s 14)) _ _ _ (from .1) refuse-or-accept in
+    let h₄ = not-picked (protocolWrong (at s 15)) _ _ _ (c .1) refuse-or-accept in
     let h₅ = not-picked (versionWrong (at s 16)) _ _ _ (h₄ .1) refuse-or-accept in
     let h₆ = not-picked (statusWrong t (statusOf t s)) _ _ _ (h₅ .1) refuse-or-accept in
     let h₇ = not-picked (pointerWrong (at s 19) (dataLength t s)) _ _ _ (h₆ .1) refuse-or-accept in
-    let d = head-facts (addressWrong (take 7 s) 0) (addressWrong (take 7 (drop 7 s)) 1) (at s 14) (at s 15) (h₄ .0) in
     let b : (23 + t ≤ length s) × (length s ≤ 274) = (let b = h₂ .0 in search facts) in
     let v : (at s 16 / 64 ≡ 0) × (at s 16 % 8 ≡ 0) = (let v = h₅ .0 in search facts) in
     let g : (statusOf t s / 16 ≡ flagOf t) × (statusOf t s / 4 % 4 ≡ 0) = (let g = h₆ .0 in search facts) in (
@@ -61,10 +59,10 @@ passed t s f h =
         least = b .0;
         greatest = b .1;
         check = h₃ .0;
-        destination = d .0;
-        source = d .1;
-        control = d .2;
-        protocol = d .3;
+        destination = to .0;
+        source = from .0;
+        control = eqb-true _ _ (not-false _ (c .0));
+        protocol = eqb-true _ _ (not-false _ (h₄ .0));
         version = v .0;
         spare = v .1;
         flag = g .0;

@@ -23,7 +23,7 @@ half x = omega arith
 even : (x : ℕ) → 2 * x % 2 ≡ 0
 even x = omega arith
 
-twice : (x : ℕ) → x % 2 ≡ 0 → 2 * (x / 2) ≡ x
+pub twice : (x : ℕ) → x % 2 ≡ 0 → 2 * (x / 2) ≡ x
 twice x h = omega arith
 
 -- a character is a space if its octet is one, shifted
@@ -31,7 +31,7 @@ blank-as : (x : ℕ) (b : Bool) → eqb x space ≡ b → eqb (2 * x) 64 ≡ b
 blank-as x true h = eq-eqb (2 * x) 64 (omega (arith, eqb-true x space h))
 blank-as x false h = ne-eqb (2 * x) 64 (λ e. eqb-false x space h (omega arith))
 
-blank-of : (x : ℕ) → eqb (2 * x) 64 ≡ eqb x space
+pub blank-of : (x : ℕ) → eqb (2 * x) 64 ≡ eqb x space
 blank-of x = blank-as x _ refl
 
 -- an octet is wrong behind another where its character may not stand
@@ -85,15 +85,15 @@ module _ (a : Address) (last : ℕ) (callsign : callsignWrong (a .callsign) ≡ 
 -- ---- what is accepted
 
 -- a choice that came to n or more was none of a smaller number
-later : (b : Bool) (k rest : ℕ) {n : ℕ} → k < n → n ≤ pick b k rest → (b ≡ false) × (n ≤ rest)
+pub later : (b : Bool) (k rest : ℕ) {n : ℕ} → k < n → n ≤ pick b k rest → (b ≡ false) × (n ≤ rest)
 unfolding pick
 later true k rest l h = absurd (omega arith)
 later false k rest l h = (refl, h)
 
 -- the octet of a letter or digit
-record Signed (x : ℕ) : Type 0 where
-  even : x % 2 ≡ 0
-  sign : sign (x / 2) ≡ true
+pub record Signed (x : ℕ) : Type 0 where
+  pub even : x % 2 ≡ 0
+  pub sign : sign (x / 2) ≡ true
 
 signed : (x : ℕ) → not (shiftedSign x) ≡ false → Signed x
 signed x h = search facts
@@ -102,10 +102,20 @@ signed x h = search facts
 even-of : (x : ℕ) → (not (eqb x 64) ≡ false) ⊎ (not (shiftedSign x) ≡ false) → x % 2 ≡ 0
 even-of x h = ⊎-elim (λ p. omega (arith, eqb-true x 64 (not-false _ p))) (λ p. signed x p .even) h
 
+-- a first octet that isn't wrong
+pub record Start (x : ℕ) : Type 0 where
+  pub even : x % 2 ≡ 0
+  pub filled : eqb x 64 ≡ false → Signed x
+
+pub start : (x : ℕ) → startWrong x ≡ false → Start x
+start x h =
+    let p = and-false (not (eqb x 64)) _ h in
+    record { even = even-of x p; filled = λ e. ⊎-elim (λ q. absurd (true≢false (sym (not-false _ q) ∙ e))) (signed x) p }
+
 -- a later character's octet that isn't wrong
-record Next (before x : ℕ) : Type 0 where
-  even : x % 2 ≡ 0
-  follows : breaks (before / 2) (x / 2) ≡ false
+pub record Next (before x : ℕ) : Type 0 where
+  pub even : x % 2 ≡ 0
+  pub follows : breaks (before / 2) (x / 2) ≡ false
 
 next : (before x : ℕ) → before % 2 ≡ 0 → nextWrong before x ≡ false → Next before x
 next before x b h =
@@ -118,37 +128,43 @@ ssid-of x last h =
     let low : x % 2 ≡ last = eqb-true _ _ (not-false _ (or-right (not (eqb (x / 32) 3)) _ h)) in
     omega arith
 
--- the octets behind place i
-abbrev Rights : List ℕ → ℕ → ℕ → ℕ → Type 0
-Rights s last i zero = (eqb (at s 0) 64 ≡ false) × (ssidWrong (at s 6) last ≡ false)
-Rights s last i (suc n) = Next (at s i) (at s (i + 1)) × Rights s last (i + 1) n
+-- the octets behind place i, as far as none below place k is wrong
+abbrev pub Rights : List ℕ → ℕ → ℕ → ℕ → ℕ → Type 0
+Rights s last k i zero = (i < k → eqb (at s 0) 64 ≡ false) × (6 < k → ssidWrong (at s 6) last ≡ false)
+Rights s last k i (suc n) = (i + 1 < k → Next (at s i) (at s (i + 1))) × Rights s last k (i + 1) n
 
-rights : (s : List ℕ) (last i n : ℕ) → i + n ≤ 5 → at s i % 2 ≡ 0 → 7 ≤ wrongBehind s last i n → Rights s last i n
+rights : (s : List ℕ) (last k i n : ℕ) → i + n ≤ 5 → (i < k → at s i % 2 ≡ 0) → (i < k → k ≤ wrongBehind s last i n) → Rights s last k i n
 unfolding wrongBehind
-rights s last i zero l e h =
-    let p = later (eqb (at s 0) 64) 0 _ (omega arith) h in
-    (p .0, later (ssidWrong (at s 6) last) 6 7 (omega arith) (p .1) .0)
-rights s last i (suc n) l e h =
-    let p = later (nextWrong (at s i) (at s (i + 1))) _ _ (omega arith) h in
-    let k = next (at s i) (at s (i + 1)) e (p .0) in
-    (k, rights s last (i + 1) n (omega arith) (k .even) (p .1))
+rights s last k i zero l e h = (
+  (λ p. later (eqb (at s 0) 64) 0 _ (omega arith) (h p) .0),
+  (λ p. later (ssidWrong (at s 6) last) 6 7 p (later (eqb (at s 0) 64) 0 _ (omega arith) (h (omega arith)) .1) .0),
+)
+rights s last k i (suc n) l e h =
+    let rest : i + 1 < k → _ = λ p. later (nextWrong (at s i) (at s (i + 1))) _ _ p (h (omega arith)) in
+    let here : i + 1 < k → Next (at s i) (at s (i + 1)) = λ p. next (at s i) (at s (i + 1)) (e (omega arith)) (rest p .0) in
+    (here, rights s last k (i + 1) n (omega arith) (λ p. here p .even) (λ p. rest p .1))
+
+-- of an address: the octets before place k, none of which is wrong
+pub record Until (s : List ℕ) (last k : ℕ) : Type 0 where
+  pub first : 0 < k → Start (at s 0)
+  pub rest : Rights s last k 0 5
+
+pub until : (s : List ℕ) (last k : ℕ) → k ≤ firstWrong s last → Until s last k
+unfolding firstWrong
+until s last k h =
+    let p : 0 < k → _ = λ l. later (startWrong (at s 0)) 0 _ l h in
+    let first : 0 < k → Start (at s 0) = λ l. start (at s 0) (p l .0) in
+    record { first = first; rest = rights s last k 0 5 (omega arith) (λ l. first l .even) (λ l. p l .1) }
 
 module _ (s : List ℕ) (last : ℕ) (h : addressWrong s last ≡ false) where
   record Accepted : Type 0 where
     first : Signed (at s 0)
-    rest : Rights s last 0 5
+    rest : Rights s last 7 0 5
 
   accepted : Accepted
-  unfolding firstWrong
   accepted =
-      let p = later (startWrong (at s 0)) 0 _ (omega arith) (ltb-false _ _ h) in
-      let start = and-false (not (eqb (at s 0) 64)) _ (p .0) in
-      let r = rights s last 0 5 (omega arith) (even-of (at s 0) start) (p .1) in
-      let filled = r .1 .1 .1 .1 .1 .0 in
-      record {
-        first = ⊎-elim (λ q. absurd (true≢false (sym (not-false _ q) ∙ filled))) (signed (at s 0)) start;
-        rest = r;
-      }
+      let u = until s last 7 (ltb-false _ _ h) in
+      record { first = u .first (omega arith) .filled (u .rest .1 .1 .1 .1 .1 .0 (omega arith)); rest = u .rest }
 
   -- the callsign of a right address is right
   pub callsign-right : callsignWrong (callsignOf s) ≡ false
@@ -156,37 +172,37 @@ module _ (s : List ℕ) (last : ℕ) (h : addressWrong s last ≡ false) where
       let r = accepted .rest in
       simp (
         accepted .first .sign,
-        r .0 .follows,
-        r .1 .0 .follows,
-        r .1 .1 .0 .follows,
-        r .1 .1 .1 .0 .follows,
-        r .1 .1 .1 .1 .0 .follows,
+        r .0 (omega arith) .follows,
+        r .1 .0 (omega arith) .follows,
+        r .1 .1 .0 (omega arith) .follows,
+        r .1 .1 .1 .0 (omega arith) .follows,
+        r .1 .1 .1 .1 .0 (omega arith) .follows,
       )
 
   -- the octets of what stands in seven right octets are those
   pub octets-of : length s ≡ 7 → addressOctets (addressOf s) last ≡ s
   octets-of n =
       let r = accepted .rest in
-      let z = ssid-of (at s 6) last (r .1 .1 .1 .1 .1 .1) in
+      let z = ssid-of (at s 6) last (r .1 .1 .1 .1 .1 .1 (omega arith)) in
       let end : drop 7 s ≡ [] = drop-of-length-le s {i = 7} (omega arith) in
       let same : addressOctets (addressOf s) last ≡ run 0 7 s =
       simp (
         twice (at s 0) (accepted .first .even),
-        twice (at s 1) (r .0 .even),
-        twice (at s 2) (r .1 .0 .even),
-        twice (at s 3) (r .1 .1 .0 .even),
-        twice (at s 4) (r .1 .1 .1 .0 .even),
-        twice (at s 5) (r .1 .1 .1 .1 .0 .even),
+        twice (at s 1) (r .0 (omega arith) .even),
+        twice (at s 2) (r .1 .0 (omega arith) .even),
+        twice (at s 3) (r .1 .1 .0 (omega arith) .even),
+        twice (at s 4) (r .1 .1 .1 .0 (omega arith) .even),
+        twice (at s 5) (r .1 .1 .1 .1 .0 (omega arith) .even),
         z,
       ) in
       same ∙ sym (run-is 7 0 s (omega arith) ∙ ap (λ (x : List ℕ). run 0 7 s ++ x) end)
 
 -- an address that is fit, as facts
-record Fit (a : Address) : Type 0 where
-  ssid : a .ssid ≤ 15
-  callsign : callsignWrong (a .callsign) ≡ false
+pub record Fit (a : Address) : Type 0 where
+  pub ssid : a .ssid ≤ 15
+  pub callsign : callsignWrong (a .callsign) ≡ false
 
-fit : (a : Address) → unfit a ≡ false → Fit a
+pub fit : (a : Address) → unfit a ≡ false → Fit a
 fit a h = record { ssid = ltb-false 15 _ (or-left (ltb 15 (a .ssid)) _ h); callsign = or-right (ltb 15 (a .ssid)) _ h }
 
 -- right octets are those of the address that stands in them, and the writer's octets are right

@@ -1,6 +1,7 @@
 pub mod Accepts
 pub mod AddressTrip
 pub mod Calls
+pub mod First
 pub mod Laying
 pub mod Reader
 pub mod ReadsBack

@@ -15,8 +15,8 @@ use Rattle.bits.specs.Rows.{ones}
 use Rattle.crc.specs.Check.{frameCheck, octetsOf, withCheck, checkWrong}
 use Rattle.bits.specs.Rows.Order.{lowFirst}
 use Rattle.crc.proofs.Ends.{found}
-use Rattle.frame.specs.Address.{addressOf}
-use Rattle.frame.specs.Frame.{lengthWrong, headWrong, versionWrong, flagOf, statusWrong, pointerWrong, dataLength, statusOf, frameOf, dataOf, timeOf, readWhole, readFrame}
+use Rattle.frame.specs.Address.{addressWrong, addressOf}
+use Rattle.frame.specs.Frame.{lengthWrong, controlWrong, protocolWrong, versionWrong, flagOf, statusWrong, pointerWrong, dataLength, statusOf, frameOf, dataOf, timeOf, readInformation, readHeader, readFrame}
 use Rattle.frame.specs.Back.{ReadsBack}
 use Rattle.frame.specs.Write.{fieldsWrong, front, statusOctet, body, frameOctets}
 use Rattle.frame.specs.declared.Frame.{Frame}
@@ -44,13 +44,21 @@ module _ (f : Frame) (t : ℕ) (d m : List ℕ) (right : fieldsWrong f t (length
   unfolding s frameOctets
   check = found lowFirst (ones 16) (body f t d m)
 
-  head : headWrong s ≡ false
-  unfolding s headWrong frameOctets withCheck
-  head =
-      simp (
-        octets-right (f .destination) 0 (r .destination) (r .to) (omega arith),
-        octets-right (f .source) 1 (r .source) (r .from) (omega arith),
-      )
+  to-right : addressWrong (take 7 s) 0 ≡ false
+  unfolding s frameOctets withCheck
+  to-right = octets-right (f .destination) 0 (r .destination) (r .to) (omega arith)
+
+  from-right : addressWrong (take 7 (drop 7 s)) 1 ≡ false
+  unfolding s frameOctets withCheck
+  from-right = octets-right (f .source) 1 (r .source) (r .from) (omega arith)
+
+  control : controlWrong (at s 14) ≡ false
+  unfolding s frameOctets withCheck
+  control = refl
+
+  protocol : protocolWrong (at s 15) ≡ false
+  unfolding s frameOctets withCheck
+  protocol = refl
 
   version : versionWrong (at s 16) ≡ false
   unfolding s frameOctets withCheck
@@ -123,8 +131,8 @@ module _ (f : Frame) (t : ℕ) (d m : List ℕ) (right : fieldsWrong f t (length
       simp (to-at, from-at, channel-at, master-at, count-at, pointer-at, c, place)
 
   read : readFrame t s ≡ accept f
-  unfolding readFrame readWhole pick
-  read = simp (le-ltb 8 t (r .time), long, check, head, version, status, pointer, fields)
+  unfolding readFrame readHeader readInformation pick
+  read = simp (le-ltb 8 t (r .time), long, check, to-right, from-right, control, protocol, version, status, pointer, fields)
 
   data-at : dataOf f s ≡ d
   data-at =

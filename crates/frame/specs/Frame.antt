@@ -7,13 +7,13 @@ use lib.Dec.{ltb, eqb}
 use Rattle.octets.specs.Numbers.{at}
 use Rattle.octets.specs.Parts.{part}
 use Rattle.octets.specs.Pick.{pick}
-use Rattle.answer.specs.Told.{Told, accept, refuse, TellsNothing}
+use Rattle.answer.specs.Told.{Told, accept, refuse, refuseAt, TellsNothing}
 use Rattle.answer.specs.Refusals as no
 use Rattle.bits.specs.Rows.{ones}
 use Rattle.bits.specs.Rows.Order.{lowFirst}
 use Rattle.crc.specs.Check.{checkWrong}
 use Rattle.frame.specs.Limits.{leastLength, greatestLength, longestTime, noneStarts, rawData}
-use Rattle.frame.specs.Address.{addressWrong, addressOf}
+use Rattle.frame.specs.Address.{firstWrong, addressWrong, addressOf}
 use Rattle.frame.specs.declared.Address.{Address}
 use Rattle.frame.specs.declared.Frame.{Frame}
 use Rattle.frame.specs.declared.FrameRead.{FrameRead}
@@ -48,7 +48,7 @@ frameNumbers f =
 
 abbrev pub told : FrameRead → Told Frame
 told (read.Frame f) = accept f
-told (read.Refused n) = refuse noFrame n
+told (read.Refused r) = refuseAt noFrame (r .number) (r .octet)
 
 abbrev pub RefusalsTellNothing : Type 0
 RefusalsTellNothing = TellsNothing told frameNumbers
@@ -59,9 +59,12 @@ RefusalsTellNothing = TellsNothing told frameNumbers
 abbrev pub lengthWrong : ℕ → ℕ → Bool
 lengthWrong t n = ltb n (leastLength + t) || ltb greatestLength n
 
--- 12: destination, source, control 0x03 or protocol 0xF0.
-unfoldable pub headWrong : List ℕ → Bool
-headWrong s = addressWrong (take 7 s) 0 || addressWrong (take 7 (drop 7 s)) 1 || not (eqb (at s 14) 3) || not (eqb (at s 15) 240)
+-- 122: the control octet 0x03; 123: the protocol octet 0xF0. (120 and 121, of an address: `addressWrong`.)
+abbrev pub controlWrong : ℕ → Bool
+controlWrong x = not (eqb x 3)
+
+abbrev pub protocolWrong : ℕ → Bool
+protocolWrong x = not (eqb x 240)
 
 -- 13: version 00, channel (3 bits), spare 000.
 abbrev pub versionWrong : ℕ → Bool
@@ -116,18 +119,28 @@ timeOf f t s = part s (21 + f .length) t
 
 -- ---- the reader
 
--- A frame of a right length: 11 (the last two octets, low octet first, aren't the check of those before) to 15.
-unfoldable pub readWhole : ℕ → List ℕ → Told Frame
-readWhole t s =
-    pick (checkWrong lowFirst (ones 16) s) (refuse noFrame no.frameCheck)
-    (pick (headWrong s) (refuse noFrame no.frameAddress)
-    (pick (versionWrong (at s 16)) (refuse noFrame no.frameVersion)
+-- The information of a frame: 13 to 15, else the fields.
+unfoldable pub readInformation : ℕ → List ℕ → Told Frame
+readInformation t s =
+    pick (versionWrong (at s 16)) (refuse noFrame no.frameVersion)
     (pick (statusWrong t (statusOf t s)) (refuse noFrame no.frameStatus)
     (pick (pointerWrong (at s 19) (dataLength t s)) (refuse noFrame no.framePointer)
-    (accept (frameOf t s))))))
+    (accept (frameOf t s))))
 
--- A single frame outside a session: 2, then 10 to 15.
+-- The octets before it, first: 120 to 123. An address tells its first wrong octet, counted in the frame.
+unfoldable pub readHeader : ℕ → List ℕ → Told Frame
+readHeader t s =
+    pick (addressWrong (take 7 s) 0) (refuseAt noFrame no.frameDestination (firstWrong (take 7 s) 0))
+    (pick (addressWrong (take 7 (drop 7 s)) 1) (refuseAt noFrame no.frameSource (7 + firstWrong (take 7 (drop 7 s)) 1))
+    (pick (controlWrong (at s 14)) (refuse noFrame no.frameControl)
+    (pick (protocolWrong (at s 15)) (refuse noFrame no.frameProtocol)
+    (readInformation t s))))
+
+-- A single frame outside a session: 2, then 10, 11 (the last two octets, low octet first, aren't the check of those before), 120 to 123,
+-- 13 to 15.
 unfoldable pub readFrame : ℕ → List ℕ → Told Frame
 readFrame t s =
     pick (ltb longestTime t) (refuse noFrame no.timeLength)
-    (pick (lengthWrong t (length s)) (refuse noFrame no.frameLength) (readWhole t s))
+    (pick (lengthWrong t (length s)) (refuse noFrame no.frameLength)
+    (pick (checkWrong lowFirst (ones 16) s) (refuse noFrame no.frameCheck)
+    (readHeader t s)))

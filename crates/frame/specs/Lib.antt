@@ -3,4 +3,5 @@ pub mod Address
 pub mod Frame
 pub mod Write
 pub mod Back
+pub mod Octet
 pub mod Asked

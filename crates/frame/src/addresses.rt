@@ -10,7 +10,9 @@ use super::Callsign;
 // An address's octets.
 pub(crate) const LENGTH: usize = 7;
 
-// What first_wrong answers where no octet is wrong.
+// What first_wrong answers of an all-blank callsign, and where no octet is wrong.
+const ALL_BLANK: u8 = 0;
+
 pub(crate) const NONE: u8 = 7;
 
 const SPACE: u8 = 32;
@@ -94,7 +96,7 @@ pub(crate) fn first_wrong(s: &[u8], last: u8) -> u8
         i = next;
     }
     if s[0] == BLANK {
-        return 0;
+        return ALL_BLANK;
     }
     if ssid_wrong(s[6], last) {
         return 6;

@@ -2,6 +2,7 @@
 ghost use mathlib.Core.Path.{_≡_};
 ghost use Rattle.frame.specs.Frame.{told, readFrame, dataOf, timeOf};
 ghost use Rattle.frame.specs.Write.{WroteFrame};
+use answer::Refusal;
 use answer::Written;
 use counts::ChannelCount;
 use counts::MasterCount;
@@ -30,10 +31,10 @@ pub struct Frame {
     pub length: usize,
 }
 
-// What a frame's octets are: its fields, or the refusal's number.
+// What a frame's octets are: its fields, or the refusal.
 pub enum FrameRead {
     Frame(Frame),
-    Refused(u16),
+    Refused(Refusal),
 }
 
 impl Address {
@@ -91,18 +92,22 @@ impl Frame {
         }
     }
 
-    // The fields of a single frame whose time has t octets, or the first of the refusals 2, 10 to 15. The octets stay as they are.
+    // The fields of a single frame whose time has t octets, or the first of the refusals 2, 10, 11, 120 to 123, 13 to 15. The octets
+    // stay as they are.
     pub fn read(t: u8, octets: &[u8]) -> FrameRead
         ensures { λ r. ⌜ told r ≡ readFrame t (now (octets .entry)) ⌝ }
     {
         let time = t as usize;
         if Frame::LONGEST_TIME < time {
-            return FrameRead::Refused(answer::TIME_LENGTH);
+            return FrameRead::Refused(Refusal::plain(answer::TIME_LENGTH));
         }
         if reading::length_wrong(time, octets.len()) {
-            return FrameRead::Refused(answer::FRAME_LENGTH);
+            return FrameRead::Refused(Refusal::plain(answer::FRAME_LENGTH));
         }
-        reading::read_whole(time, octets)
+        if reading::check_wrong(octets) {
+            return FrameRead::Refused(Refusal::plain(answer::FRAME_CHECK));
+        }
+        reading::read_header(time, octets)
     }
 
     // The data of a frame's octets; none if they have not all of it.

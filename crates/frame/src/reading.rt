@@ -1,4 +1,4 @@
-// The lines of the refusals 10 to 15, and the fields of a frame's octets.
+// The lines of the refusals 10, 11, 120 to 123 and 13 to 15, and the fields of a frame's octets.
 ghost use mathlib.Core.Path.{_≡_};
 ghost use lib.ListN.{length};
 ghost use Prim.Native.Nat.{_≤_};
@@ -7,10 +7,11 @@ ghost use Rattle.bits.specs.Rows.Order.{lowFirst};
 ghost use Rattle.crc.specs.Check.{checkWrong};
 ghost use Rattle.frame.specs.Asked.{Whole};
 ghost use Rattle.frame.specs.Limits.{leastLength, longestTime};
-ghost use Rattle.frame.specs.Frame.{told, flagOf, lengthWrong, headWrong, versionWrong, statusWrong, pointerWrong, fieldsOf, readWhole};
+ghost use Rattle.frame.specs.Frame.{told, flagOf, lengthWrong, versionWrong, statusWrong, pointerWrong, fieldsOf, readHeader, readInformation};
 use super::Frame;
 use super::FrameRead;
 use super::addresses;
+use answer::Refusal;
 use counts::ChannelCount;
 use counts::MasterCount;
 
@@ -51,23 +52,12 @@ pub(crate) fn length_wrong(t: usize, n: usize) -> bool
 }
 
 // Whether the last two octets, low octet first, aren't the check of those before: refusal 11.
-fn check_wrong(s: &[u8]) -> bool
+pub(crate) fn check_wrong(s: &[u8]) -> bool
     requires { ⌜ leastLength ≤ length (now s) ⌝ }
     ensures { λ r. ⌜ r ≡ checkWrong lowFirst (ones 16) (now (s .entry)) ⌝ }
 {
     let n = s.len();
     octets::word(s[n - 1], s[n - 2]) != crc::frame_check(&s[..n - 2])
-}
-
-// Whether an address, the control or the protocol octet is wrong: refusal 12.
-fn head_wrong(s: &[u8]) -> bool
-    requires { ⌜ leastLength ≤ length (now s) ⌝ }
-    ensures { λ r. ⌜ r ≡ headWrong (now (s .entry)) ⌝ }
-{
-    (addresses::first_wrong(&s[0..SOURCE_AT], 0) < addresses::NONE)
-        | (addresses::first_wrong(&s[SOURCE_AT..CONTROL_AT], 1) < addresses::NONE)
-        | (s[CONTROL_AT] != CONTROL)
-        | (s[PROTOCOL_AT] != PROTOCOL)
 }
 
 // Whether the information's first octet x has a version or a spare that isn't 0: refusal 13.
@@ -124,27 +114,50 @@ fn frame_of(s: &[u8], n: usize, status: u8) -> Frame
     )
 }
 
-// What a frame of a right length is: its fields, or the first of the refusals 11 to 15.
-pub(crate) fn read_whole(t: usize, s: &[u8]) -> FrameRead
+// What a frame with a right header is: its fields, or the first of the refusals 13 to 15.
+fn read_information(t: usize, s: &[u8]) -> FrameRead
     requires { ⌜ Whole t (now s) ⌝ }
-    ensures { λ r. ⌜ told r ≡ readWhole t (now (s .entry)) ⌝ }
+    ensures { λ r. ⌜ told r ≡ readInformation t (now (s .entry)) ⌝ }
 {
-    if check_wrong(s) {
-        return FrameRead::Refused(answer::FRAME_CHECK);
-    }
-    if head_wrong(s) {
-        return FrameRead::Refused(answer::FRAME_ADDRESS);
-    }
     if version_wrong(s[CHANNEL_AT]) {
-        return FrameRead::Refused(answer::FRAME_VERSION);
+        return FrameRead::Refused(Refusal::plain(answer::FRAME_VERSION));
     }
     let status = s[s.len() - AROUND_TIME - t];
     if status_wrong(t, status) {
-        return FrameRead::Refused(answer::FRAME_STATUS);
+        return FrameRead::Refused(Refusal::plain(answer::FRAME_STATUS));
     }
     let n = s.len() - Frame::LEAST - t;
     if pointer_wrong(s[POINTER_AT], n) {
-        return FrameRead::Refused(answer::FRAME_POINTER);
+        return FrameRead::Refused(Refusal::plain(answer::FRAME_POINTER));
     }
     FrameRead::Frame(frame_of(s, n, status))
+}
+
+// What a frame of a right length and check is: the first of the refusals 120 to 123, an address's with its octet in the frame; else as
+// its information is.
+pub(crate) fn read_header(t: usize, s: &[u8]) -> FrameRead
+    requires { ⌜ Whole t (now s) ⌝ }
+    ensures { λ r. ⌜ told r ≡ readHeader t (now (s .entry)) ⌝ }
+{
+    let to = addresses::first_wrong(&s[0..SOURCE_AT], 0);
+    if to < addresses::NONE {
+        return FrameRead::Refused(Refusal {
+            number: answer::FRAME_DESTINATION,
+            octet: to,
+        });
+    }
+    let from = addresses::first_wrong(&s[SOURCE_AT..CONTROL_AT], 1);
+    if from < addresses::NONE {
+        return FrameRead::Refused(Refusal {
+            number: answer::FRAME_SOURCE,
+            octet: SOURCE_AT as u8 + from,
+        });
+    }
+    if s[CONTROL_AT] != CONTROL {
+        return FrameRead::Refused(Refusal::plain(answer::FRAME_CONTROL));
+    }
+    if s[PROTOCOL_AT] != PROTOCOL {
+        return FrameRead::Refused(Refusal::plain(answer::FRAME_PROTOCOL));
+    }
+    read_information(t, s)
 }

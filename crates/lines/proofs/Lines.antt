@@ -9,6 +9,7 @@ use lib.ListN.{length, length-append}
 use borrow.Author.Tests.{lt-ltb, le-ltb, ltb-true, ltb-false}
 use Rattle.octets.specs.Pick.{pick}
 use Rattle.octets.specs.Parts.{put}
+use Rattle.answer.specs.declared.Refusal.{Refusal}
 use Rattle.decimal.specs.Text.{longestNumber, decimal, spaced}
 use Rattle.decimal.specs.Laid.{Laid, Puts}
 use Rattle.decimal.proofs.Laid.{resaid, joined, behind-numbers, put-laid, puts-none, puts-laid, laid-puts, number-laid, numbers-laid}
@@ -119,7 +120,7 @@ module _ (arrival : ℕ) {at r : ℕ} {out out′ : List ℕ} {answer : StepAnsw
   unfolding pick
   accepted-line e l = rw e l
 
-  pub refused-line : {n : ℕ} → answer ≡ steps.Refused n → Laid longestLine (refusedLine arrival n) out at out′ r
+  pub refused-line : {n : Refusal} → answer ≡ steps.Refused n → Laid longestLine (refusedLine arrival (n .number)) out at out′ r
       → Laid longestLine (answerText arrival (toldStep answer)) out at out′ r
   unfolding pick
   refused-line e l = rw e l

@@ -29,7 +29,7 @@ unfoldable pub acceptedLine : ℕ → Accepted → List ℕ
 acceptedLine arrival a =
     line (decimal arrival) (decimal 0 ∷ decimal (a .channel) ∷ shown (a .lost) ∷ shown (a .master) ∷ decimal (a .packets) ∷ [])
 
--- Arrival, refusal, four dashes.
+-- Arrival, the refusal's number (of an octet nothing is shown), four dashes.
 unfoldable pub refusedLine : ℕ → ℕ → List ℕ
 refusedLine arrival refusal = line (decimal arrival) (decimal refusal ∷ dash ∷ dash ∷ dash ∷ dash ∷ [])
 

@@ -49,7 +49,7 @@ pub fn answer_line(out: &mut [u8], at: usize, arrival: u32, answer: StepAnswer) 
     }
     match answer {
         StepAnswer::Accepted(a) => accepted(out, at, arrival, a),
-        StepAnswer::Refused(refusal) => refused(out, at, arrival, refusal),
+        StepAnswer::Refused(refusal) => refused(out, at, arrival, refusal.number),
     }
 }
 

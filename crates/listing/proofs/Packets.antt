@@ -8,6 +8,7 @@ use lib.ListN.{length, getD, take, drop, length-drop}
 use lib.Seq.{drop-drop, take-suc, take-take, length-take-le}
 use Rattle.octets.specs.Parts.{part}
 use Rattle.octets.proofs.Placing.{part-some}
+use Rattle.answer.specs.declared.Refusal.{Refusal}
 use Rattle.packet.specs.Packet.{readPacket, told}
 use Rattle.packet.specs.declared.PacketRead.{PacketRead}
 use Rattle.session.specs.Step.{told as toldStep}
@@ -77,7 +78,7 @@ module _ (answer : StepAnswer) (arrival : ℕ) (octets lengths : List ℕ) {out 
   with-packets e few y =
       resaid (ap (λ (k : ℕ). answerText arrival (toldStep answer) ++ packetsText arrival (cut octets (take k lengths))) e) (omega arith) (joined (omega arith) line-laid y)
 
-  pub without-packets : {n : ℕ} → answer ≡ steps.Refused n → Laid room (answered arrival (toldStep answer) octets lengths) out at out₁ r₁
+  pub without-packets : {n : Refusal} → answer ≡ steps.Refused n → Laid room (answered arrival (toldStep answer) octets lengths) out at out₁ r₁
   without-packets e =
       resaid
       (sym (append-nil _) ∙ ap (λ (k : ℕ). answerText arrival (toldStep answer) ++ packetsText arrival (cut octets (take k lengths))) (sym (ap (λ (y : StepAnswer). toldStep y .fields .packets) e)))

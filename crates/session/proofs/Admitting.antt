@@ -7,11 +7,13 @@ use lib.Dec.{eqb}
 use borrow.Author.Tests.{eq-eqb, ne-eqb, eqb-true, eqb-false}
 use Rattle.octets.specs.Pick.{pick}
 use Rattle.octets.proofs.Choices.{picks, picked, passed, not-picked}
+use Rattle.answer.specs.Told.{plain}
 use Rattle.answer.specs.Refusals as no
+use Rattle.answer.specs.declared.Refusal.{Refusal}
 use Rattle.rules.specs.Limits.{lastNumber}
 use Rattle.session.specs.Channel.{unsound}
 use Rattle.session.specs.Lent.{Lent, scant, Enough}
-use Rattle.session.specs.Step.{Outcome, refused, barred, admitted, Gives}
+use Rattle.session.specs.Step.{Outcome, refusedAt, refused, barred, admitted, Gives}
 use Rattle.session.specs.declared.Session.{Session}
 use Rattle.session.specs.declared.Stepped.{Stepped}
 use Rattle.session.specs.declared.StepAnswer.the-variants as answer
@@ -56,33 +58,38 @@ roomy s l o k u = go (eqb (s .arrival) lastNumber) refl
 
 -- ---- what is given
 
-abbrev pub turnedDown : Session → ℕ → Stepped
-turnedDown s n = record { session = s; answer = answer.Refused n }
+abbrev pub turnedDown : Session → Refusal → Stepped
+turnedDown s r = record { session = s; answer = answer.Refused r }
 
-pub gives-refused : (s : Session) (n : ℕ) (l : Lent) → Gives (refused s n) (turnedDown s n) l l
-gives-refused s n l = record { session = refl; answers = refl; leaves = refl }
+pub gives-refused : (s : Session) (r : Refusal) (l : Lent) → Gives (refusedAt s (r .number) (r .octet)) (turnedDown s r) l l
+gives-refused s r l = record { session = refl; answers = refl; leaves = refl }
+
+-- of a refusal that tells no octet
+pub gives-plain : (s : Session) (n : ℕ) {r : Refusal} → r ≡ plain n → (l : Lent) → Gives (refused s n) (turnedDown s r) l l
+gives-plain s n e l = subst (λ (x : Refusal). Gives (refused s n) (turnedDown s x) l l) (sym e) (gives-refused s (plain n) l)
 
 module _ (s : Session) (l : Lent) where
-  barring : (n : ℕ) → n ≡ barred s l → (n ≡ 0 → ⊥) → (o : Outcome) → Gives (admitted s l o) (turnedDown s n) l l
-  barring n e z o =
+  barring : (n : ℕ) → n ≡ barred s l → (n ≡ 0 → ⊥) → {r : Refusal} → r ≡ plain n → (o : Outcome) → Gives (admitted s l o) (turnedDown s r) l l
+  barring n e z {r} p o =
       let no : eqb (barred s l) 0 ≡ false = ne-eqb (barred s l) 0 (λ h. z (e ∙ h)) in
-      subst (λ (x : Outcome). Gives x (turnedDown s n) l l)
-      (passed (eqb (barred s l) 0) o (refused s (barred s l)) (refused s n) no (ap (refused s) e)) (gives-refused s n l)
+      subst (λ (x : Outcome). Gives x (turnedDown s r) l l)
+      (passed (eqb (barred s l) 0) o (refused s (barred s l)) (refused s n) no (ap (refused s) e)) (gives-plain s n p l)
 
   -- refusal 1
-  pub bars-room : scant l ≡ true → (o : Outcome) → Gives (admitted s l o) (turnedDown s no.room) l l
+  pub bars-room : scant l ≡ true → {r : Refusal} → r ≡ plain no.room → (o : Outcome) → Gives (admitted s l o) (turnedDown s r) l l
   unfolding barred
   bars-room h = barring no.room (picked _ _ _ h) (λ z. omega arith)
 
   module _ (h : scant l ≡ false) where
     -- refusal 4
-    pub bars-session : unsound s ≡ true → (o : Outcome) → Gives (admitted s l o) (turnedDown s no.session) l l
+    pub bars-session : unsound s ≡ true → {r : Refusal} → r ≡ plain no.session → (o : Outcome) → Gives (admitted s l o) (turnedDown s r) l l
     unfolding barred
     bars-session u = barring no.session (passed _ _ _ _ h (picked _ _ _ u)) (λ z. omega arith)
 
     module _ (u : unsound s ≡ false) where
       -- refusal 3
-      pub bars-arrivals : s .arrival ≡ lastNumber → (o : Outcome) → Gives (admitted s l o) (turnedDown s no.arrivals) l l
+      pub bars-arrivals : s .arrival ≡ lastNumber → {r : Refusal} → r ≡ plain no.arrivals → (o : Outcome)
+          → Gives (admitted s l o) (turnedDown s r) l l
       unfolding barred
       bars-arrivals e =
           barring no.arrivals (passed _ _ _ _ h (passed _ _ _ _ u (picked _ _ _ (eq-eqb _ _ e)))) (λ z. omega arith)

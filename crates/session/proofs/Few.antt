@@ -13,7 +13,7 @@ use Rattle.rules.specs.Bounds.{Bounded, Under}
 use Rattle.rules.proofs.Step.{step-arrivals}
 use Rattle.session.specs.Channel.{view, unsound}
 use Rattle.session.specs.Lent.{Lent}
-use Rattle.session.specs.Step.{Outcome, refused, counted, channelAt, pieceOf, ruled, accepted, heeded, outcome, turnedAway}
+use Rattle.session.specs.Step.{Outcome, refusedAt, counted, channelAt, pieceOf, ruled, accepted, heeded, outcome, turnedAway}
 use Rattle.session.specs.Statements.{Stretch, found, unread, offered}
 use Rattle.session.specs.declared.Session.{Session}
 use Rattle.session.proofs.Admitting.{admitted-picks}
@@ -25,8 +25,8 @@ pub record Few (o : Outcome) : Type 0 where
   pub packets : length (bare (o .packets)) ≤ 16
   pub octets : length (joined (bare (o .packets))) ≤ 501
 
-refused-few : (s : Session) (n : ℕ) → Few (refused s n)
-refused-few s n = record { count = refl; under = tt; packets = omega arith; octets = omega arith }
+refused-few : (s : Session) (n octet : ℕ) → Few (refusedAt s n octet)
+refused-few s n octet = record { count = refl; under = tt; packets = omega arith; octets = omega arith }
 
 pub ruled-arrivals : (s : Session) (f : Frame) (d : List ℕ) → Under (s .arrival) (ruled s f d .packets)
 unfolding ruled
@@ -42,14 +42,14 @@ heeded-few : (s : Session) (frame : List ℕ) → unsound s ≡ false → Few (h
 heeded-few s frame u =
     picks Few (readFrame (s .t) frame .accepted) _ _
     (λ a. accepted-few s (readFrame (s .t) frame .fields) _ u (few-read (s .t) frame a))
-    (λ a. refused-few s _)
+    (λ a. refused-few s _ _)
 
 pub step-few : (s : Session) (frame : List ℕ) (l : Lent) → Few (outcome s frame l)
 unfolding outcome
 step-few s frame l =
-    admitted-picks Few s l _ (λ a. heeded-few (counted s) frame (counted-sound s (a .sound))) (λ n e. refused-few s n)
+    admitted-picks Few s l _ (λ a. heeded-few (counted s) frame (counted-sound s (a .sound))) (λ n e. refused-few s n 0)
 
 pub offer-few : (s : Session) (x : Stretch) (l : Lent) → Few (offered s x l)
 unfolding turnedAway
 offer-few s (found x) l = step-few s x l
-offer-few s (unread n) l = admitted-picks Few s l _ (λ a. refused-few (counted s) n) (λ m e. refused-few s m)
+offer-few s (unread n) l = admitted-picks Few s l _ (λ a. refused-few (counted s) n 0) (λ m e. refused-few s m 0)

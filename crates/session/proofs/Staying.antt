@@ -23,7 +23,7 @@ use Rattle.rules.proofs.Bounds.{fresh-sound, passing-sound, sound-passing, step
 use Rattle.session.specs.Channel.{heardOf, countOf, view, stored, fresh, channelUnsound, anyUnsound, unsound}
 use Rattle.session.specs.Lent.{Lent}
 use Rattle.session.specs.Open.{Opening, opened, opening}
-use Rattle.session.specs.Step.{Outcome, refused, counted, channelAt, pieceOf, ruled, accepted, heeded, outcome, turnedAway}
+use Rattle.session.specs.Step.{Outcome, refusedAt, counted, channelAt, pieceOf, ruled, accepted, heeded, outcome, turnedAway}
 use Rattle.session.specs.Statements.{Stretch, found, unread, offered, Offer, after, StaysSound}
 use Rattle.session.specs.declared.Channel.{Channel}
 use Rattle.session.specs.declared.Session.{Session}
@@ -95,8 +95,8 @@ pub counted-sound : (s : Session) → unsound s ≡ false → unsound (counted s
 unfolding unsound
 counted-sound s u = u
 
-refused-stays : (s : Session) (n : ℕ) → unsound s ≡ false → Stays s (refused s n)
-refused-stays s n u = record { sound = u; channels = refl }
+refused-stays : (s : Session) (n octet : ℕ) → unsound s ≡ false → Stays s (refusedAt s n octet)
+refused-stays s n octet u = record { sound = u; channels = refl }
 
 counted-stays : (s : Session) (o : Outcome) → Stays (counted s) o → Stays s o
 counted-stays s o w = record { sound = w .sound; channels = w .channels }
@@ -115,18 +115,18 @@ heeded-stays : (s : Session) (frame : List ℕ) → unsound s ≡ false → Stay
 heeded-stays s frame u =
     picks (Stays s) (readFrame (s .t) frame .accepted) _ _
     (λ a. accepted-stays s (readFrame (s .t) frame .fields) _ u (few-read (s .t) frame a))
-    (λ a. refused-stays s _ u)
+    (λ a. refused-stays s _ _ u)
 
 pub step-stays : (s : Session) (frame : List ℕ) (l : Lent) → unsound s ≡ false → Stays s (outcome s frame l)
 unfolding outcome
 step-stays s frame l u =
-    admitted-picks (Stays s) s l _ (λ a. counted-stays s _ (heeded-stays (counted s) frame (counted-sound s u))) (λ n e. refused-stays s n u)
+    admitted-picks (Stays s) s l _ (λ a. counted-stays s _ (heeded-stays (counted s) frame (counted-sound s u))) (λ n e. refused-stays s n 0 u)
 
 pub offer-stays : (s : Session) (x : Stretch) (l : Lent) → unsound s ≡ false → Stays s (offered s x l)
 unfolding turnedAway
 offer-stays s (found x) l u = step-stays s x l u
 offer-stays s (unread n) l u =
-    admitted-picks (Stays s) s l _ (λ a. counted-stays s _ (refused-stays (counted s) n (counted-sound s u))) (λ m e. refused-stays s m u)
+    admitted-picks (Stays s) s l _ (λ a. counted-stays s _ (refused-stays (counted s) n 0 (counted-sound s u))) (λ m e. refused-stays s m 0 u)
 
 after-sound : (s : Session) (os : List Offer) → unsound s ≡ false → unsound (after s os) ≡ false
 after-sound s [] u = u
@@ -140,7 +140,7 @@ Other o = o .answer .refusal ≡ no.session → ⊥
 heeded-other : (s : Session) (frame : List ℕ) → Other (heeded s frame (readFrame (s .t) frame))
 unfolding accepted
 heeded-other s frame =
-    picks Other (readFrame (s .t) frame .accepted) (accepted s _ _) (refused s _) (λ a h. omega arith) (λ a. read-tells (s .t) frame .other)
+    picks Other (readFrame (s .t) frame .accepted) (accepted s _ _) (refusedAt s _ _) (λ a h. omega arith) (λ a. read-tells (s .t) frame .other)
 
 sound-answers : (s : Session) (frame : List ℕ) (l : Lent) → unsound s ≡ false → Other (outcome s frame l)
 unfolding outcome

@@ -7,7 +7,8 @@ use mathlib.Core.Logic.{⊎-elim}
 use mathlib.Core.List.{List}
 use lib.ListN.{length, set}
 use Rattle.octets.specs.Pick.{pick}
-use Rattle.answer.specs.Told.{accept, refuse}
+use Rattle.answer.specs.Told.{accept, refuseAt}
+use Rattle.answer.specs.declared.Refusal.{Refusal}
 use Rattle.counts.specs.declared.Loss.{Loss}
 use Rattle.counts.specs.Lost.{lastOf, lostSince}
 use Rattle.frame.specs.Frame.{noFrame, readFrame, dataOf}
@@ -65,9 +66,9 @@ module _ (s : Session) (frame : List ℕ) (l : Lent) where
   abbrev told : Outcome
   told = heeded s frame (readFrame (s .t) frame)
 
-  pub not-read : (n : ℕ) → refuse noFrame n ≡ readFrame (s .t) frame → Gives told (turnedDown s n) l l
+  pub not-read : (r : Refusal) → refuseAt noFrame (r .number) (r .octet) ≡ readFrame (s .t) frame → Gives told (turnedDown s r) l l
   unfolding pick
-  not-read n e = subst (λ (o : Outcome). Gives o (turnedDown s n) l l) (ap (heeded s frame) e) (gives-refused s n l)
+  not-read r e = subst (λ (o : Outcome). Gives o (turnedDown s r) l l) (ap (heeded s frame) e) (gives-refused s r l)
 
   pub read : (f : Frame) (xs : List ℕ) (r : Stepped) (l′ : Lent) → accept f ≡ readFrame (s .t) frame → xs ≡ dataOf f frame
       → Gives (accepted s f xs) r l l′ → Gives told r l l′

@@ -4,7 +4,7 @@ use mathlib.Core.Path.{_≡_, refl, sym, ap, _∙_}
 use mathlib.Core.Bool.{true≢false}
 use borrow.Author.Tests.{lt-ltb}
 use Rattle.octets.specs.Pick.{pick}
-use Rattle.answer.proofs.Told.{same-fields, same-refusal, accept-or-refuse, refuse-or-accept}
+use Rattle.answer.proofs.Told.{same-fields, same-refusal, same-refusal-at, accept-or-refuse, refuse-or-accept}
 use Rattle.session.specs.Open as opening
 use Rattle.session.specs.Lent.{Lent}
 use Rattle.session.specs.Step as stepping
@@ -25,7 +25,7 @@ open-told-apart (opens.Refused n) opens.Accepted h = refuse-or-accept h
 
 pub step-told-apart : (x y : StepAnswer) → stepping.told x ≡ stepping.told y → x ≡ y
 step-told-apart (steps.Accepted a) (steps.Accepted b) h = ap steps.Accepted (same-fields h)
-step-told-apart (steps.Refused n) (steps.Refused m) h = ap steps.Refused (same-refusal h)
+step-told-apart (steps.Refused n) (steps.Refused m) h = ap steps.Refused (same-refusal-at n m h)
 step-told-apart (steps.Accepted a) (steps.Refused m) h = accept-or-refuse h
 step-told-apart (steps.Refused n) (steps.Accepted a) h = refuse-or-accept h
 

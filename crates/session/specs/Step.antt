@@ -6,7 +6,7 @@ use mathlib.Core.Bool.{true}
 use lib.ListN.{length, getD, set}
 use lib.Dec.{eqb}
 use Rattle.octets.specs.Pick.{pick}
-use Rattle.answer.specs.Told.{Told, accept, refuse}
+use Rattle.answer.specs.Told.{Told, accept, refuseAt}
 use Rattle.answer.specs.Refusals as no
 use Rattle.frame.specs.Frame.{readFrame, dataOf}
 use Rattle.frame.specs.declared.Frame.{Frame}
@@ -29,7 +29,7 @@ nothingTold = record { arrival = 0; channel = 0; lost = Known 0; master = Known 
 
 abbrev pub told : StepAnswer → Told Accepted
 told (answer.Accepted a) = accept a
-told (answer.Refused n) = refuse nothingTold n
+told (answer.Refused r) = refuseAt nothingTold (r .number) (r .octet)
 
 -- The next session, the answer, and the packets handed out.
 pub record Outcome : Type 0 where
@@ -37,9 +37,12 @@ pub record Outcome : Type 0 where
   pub answer : Told Accepted
   pub packets : List Handed
 
--- A refusal hands nothing out.
+-- A refusal hands nothing out; but for a frame's address it tells no octet: it is 0.
+abbrev pub refusedAt : Session → ℕ → ℕ → Outcome
+refusedAt s n octet = record { session = s; answer = refuseAt nothingTold n octet; packets = [] }
+
 abbrev pub refused : Session → ℕ → Outcome
-refused s n = record { session = s; answer = refuse nothingTold n; packets = [] }
+refused s n = refusedAt s n 0
 
 -- Every frame offered takes the next arrival number.
 abbrev pub counted : Session → Session
@@ -77,9 +80,9 @@ accepted s f octets =
       packets = ruled s f octets .packets;
     }
 
--- By what the frame's reader tells: accepted, or 10 to 15.
+-- By what the frame's reader tells: accepted, or its refusal (10, 11, 120 to 123, 13 to 15) with the octet.
 abbrev pub heeded : Session → List ℕ → Told Frame → Outcome
-heeded s frame r = pick (r .accepted) (accepted s (r .fields) (dataOf (r .fields) frame)) (refused s (r .refusal))
+heeded s frame r = pick (r .accepted) (accepted s (r .fields) (dataOf (r .fields) frame)) (refusedAt s (r .refusal) (r .octet))
 
 -- ---- what is offered
 
@@ -91,7 +94,7 @@ barred s l = pick (scant l) no.room (pick (unsound s) no.session (pick (eqb (s .
 abbrev pub admitted : Session → Lent → Outcome → Outcome
 admitted s l o = pick (eqb (barred s l) 0) o (refused s (barred s l))
 
--- A frame's octets: 1, 4, 3, then 10 to 15.
+-- A frame's octets: 1, 4, 3, then the frame reader's refusals.
 unfoldable pub outcome : Session → List ℕ → Lent → Outcome
 outcome s frame l = admitted s l (heeded (counted s) frame (readFrame (s .t) frame))
 

@@ -4,6 +4,7 @@ ghost use Rattle.session.specs.Channel.{unsound};
 ghost use Rattle.session.specs.Open.{opened, Opens};
 ghost use Rattle.session.specs.Lent.{lent, scant};
 ghost use Rattle.session.specs.Step.{Steps, TurnsAway};
+use answer::Refusal;
 use counts::ChannelCount;
 use counts::Loss;
 use counts::MasterCount;
@@ -52,10 +53,10 @@ pub struct Accepted {
     pub packets: u8,
 }
 
-// What a step answers: an accepted frame, or the refusal's number.
+// What a step answers: an accepted frame, or the refusal.
 pub enum StepAnswer {
     Accepted(Accepted),
-    Refused(u16),
+    Refused(Refusal),
 }
 
 // The next session beside the answer.
@@ -127,18 +128,18 @@ impl Session {
     }
 
     // The session after a frame is offered; the packets that it completes are end to end at the start of octets, their lengths at the
-    // start of lengths. Else the first refusal of 1, 4, 3 and the frame's 10 to 15, of which 10 to 15 use up an arrival number.
-    // What is lent stays beyond that.
+    // start of lengths. Else the first refusal of 1, 4, 3 and the frame's (10, 11, 120 to 123, 13 to 15), which use up an arrival
+    // number and tell the frame's octet. What is lent stays beyond that.
     pub fn step(mut self, frame: &[u8], octets: &mut [u8], lengths: &mut [u16]) -> Stepped
         ensures { λ r. ⌜ Steps self (now (frame .entry)) (lent (now (octets .entry)) (now (lengths .entry))) r (lent (now (octets .exit)) (now (lengths .exit))) ⌝ }
     {
         let answer;
         if scant(octets, lengths) {
-            answer = StepAnswer::Refused(answer::ROOM);
+            answer = StepAnswer::Refused(Refusal::plain(answer::ROOM));
         } else if self.unsound() {
-            answer = StepAnswer::Refused(answer::SESSION);
+            answer = StepAnswer::Refused(Refusal::plain(answer::SESSION));
         } else if self.arrival == Session::LAST {
-            answer = StepAnswer::Refused(answer::ARRIVALS);
+            answer = StepAnswer::Refused(Refusal::plain(answer::ARRIVALS));
         } else {
             self.arrival += 1;
             match Frame::read(self.t, frame) {
@@ -180,14 +181,14 @@ impl Session {
     {
         let answer;
         if scant(octets, lengths) {
-            answer = StepAnswer::Refused(answer::ROOM);
+            answer = StepAnswer::Refused(Refusal::plain(answer::ROOM));
         } else if self.unsound() {
-            answer = StepAnswer::Refused(answer::SESSION);
+            answer = StepAnswer::Refused(Refusal::plain(answer::SESSION));
         } else if self.arrival == Session::LAST {
-            answer = StepAnswer::Refused(answer::ARRIVALS);
+            answer = StepAnswer::Refused(Refusal::plain(answer::ARRIVALS));
         } else {
             self.arrival += 1;
-            answer = StepAnswer::Refused(own);
+            answer = StepAnswer::Refused(Refusal::plain(own));
         }
         Stepped {
             session: self,

@@ -2,6 +2,7 @@
 use counts::ChannelCount;
 use counts::Loss;
 use counts::MasterCount;
+use format_cases::frames;
 use records::input;
 use records::places;
 use records::text;
@@ -126,7 +127,7 @@ pub fn step(c: &[u8], s: Session, octets: &mut [u8], lengths: &mut [u16]) -> Ses
             loss(b" master ", master);
             text::field(b" packets ", a.packets as u64);
         }
-        StepAnswer::Refused(n) => text::field(b"refusal ", n as u64),
+        StepAnswer::Refused(r) => frames::refused(r),
     }
     text::words(b" lengths", lengths, 61166);
     text::lent(b" octets ", octets, 238);

@@ -31,8 +31,9 @@ begun c = c .before .before .before .before .before .before
 returns : tie.Need-returns
 unfolding outcome
 returns c =
-    let s = begun (c .before) in
-    bars-room (s .args .t1) (room s) (through (c .before .scant .ensures) (c .if1 .taken)) _
+    let t = c .before in
+    let s = begun (t .before) in
+    bars-room (s .args .t1) (room s) (through (t .before .scant .ensures) (t .if1 .taken)) (c .plain .ensures) _
 
 -- enough is lent, and the session is sound
 lends : (c : tie.Else1) → scant (room (begun (c .before))) ≡ false
@@ -41,9 +42,10 @@ lends c = through (c .before .scant .ensures) (c .if1 .left)
 returns-2 : tie.Need-returns-2
 unfolding outcome
 returns-2 c =
-    let e = c .before .before in
+    let t = c .before in
+    let e = t .before .before in
     let s = begun (e .before) in
-    bars-session (s .args .t1) (room s) (lends e) (through (c .before .unsound .ensures) (c .if2 .taken)) _
+    bars-session (s .args .t1) (room s) (lends e) (through (t .before .unsound .ensures) (t .if2 .taken)) (c .plain2 .ensures) _
 
 sound : (c : tie.Else2) → unsound (begun (c .before .before .before) .args .t1) ≡ false
 sound c = through (c .before .unsound .ensures) (c .if2 .left)
@@ -51,9 +53,10 @@ sound c = through (c .before .unsound .ensures) (c .if2 .left)
 returns-3 : tie.Need-returns-3
 unfolding outcome
 returns-3 c =
-    let e = c .before .before .before in
+    let t = c .before in
+    let e = t .before .before .before in
     let s = begun (e .before) in
-    bars-arrivals (s .args .t1) (room s) (lends e) (sound (c .before)) (c .if3 .taken) _
+    bars-arrivals (s .args .t1) (room s) (lends e) (sound (t .before)) (t .if3 .taken) (c .plain3 .ensures) _
 
 -- a frame that passed it
 abbrev start : tie.Else3 → tie.Start
@@ -132,7 +135,8 @@ pub step-spec : {M : Type 1} → statement M
 step-spec =
     tie.close
     (tie.spec
-    (λ c κs. search needs) (λ c κs. search needs) add-self (λ c κs. search needs) (λ c. search needs) (λ c. search needs)
+    (λ c κs. search needs) (λ c κs. search needs) (λ c κs. search needs) (λ c κs. search needs) (λ c κs. search needs) add-self
+    (λ c κs. search needs) (λ c. search needs) (λ c. search needs)
     (λ c. search needs) (λ c. omega (arith, low c)) low (λ c κs. search needs) heed-requires (λ c κs. search needs) (λ c. omega (arith, low (known c))) (λ c. low (known c))
     (λ c. search needs) (λ c. search needs) returns (λ c. search needs) (λ c. search needs) returns-2 (λ c. search needs) (λ c. search needs) returns-3
     (λ c. search needs) (λ c. search needs) returns-4 (λ c. search needs) (λ c. search needs) returns-5)
