@@ -1,5 +1,10 @@
 /* The job of crates/decode in plain C: a recording on standard input, its listing on standard output.
- * Written from document 01 alone; no header is needed, so that the kit's own clang builds it anywhere. */
+ * Written from document 01 alone; no header is needed, so that the kit's own clang builds it anywhere.
+ * PACKET_BITS says how many bits the packet check takes at once: 4, by sixteen words, or 8, by 256. */
+#ifndef PACKET_BITS
+#define PACKET_BITS 4
+#endif
+
 typedef unsigned char u8;
 typedef unsigned short u16;
 typedef unsigned int u32;
@@ -86,17 +91,20 @@ static void next(u32 n)
 
 /* ---- The two checks */
 
-static u16 high_first[256], low_first[256];
+static u16 high_first[1 << PACKET_BITS], low_first[256];
 
 static void make_tables(void)
 {
-    for (u32 i = 0; i < 256; i++) {
-        u32 h = i << 8, l = i;
-        for (int k = 0; k < 8; k++) {
+    for (u32 i = 0; i < 1 << PACKET_BITS; i++) {
+        u32 h = i << (16 - PACKET_BITS);
+        for (int k = 0; k < PACKET_BITS; k++)
             h = h & 0x8000 ? h << 1 ^ 0x1021 : h << 1;
-            l = l & 1 ? l >> 1 ^ 0x8408 : l >> 1;
-        }
         high_first[i] = (u16)h;
+    }
+    for (u32 i = 0; i < 256; i++) {
+        u32 l = i;
+        for (int k = 0; k < 8; k++)
+            l = l & 1 ? l >> 1 ^ 0x8408 : l >> 1;
         low_first[i] = (u16)l;
     }
 }
@@ -104,8 +112,15 @@ static void make_tables(void)
 static u16 packet_check(const u8 *p, size_t n)
 {
     u16 s = 0xFFFF;
-    for (size_t i = 0; i < n; i++)
+    for (size_t i = 0; i < n; i++) {
+#if PACKET_BITS == 4
+        s ^= (u16)(p[i] << 8);
+        s = (u16)(s << 4 ^ high_first[s >> 12]);
+        s = (u16)(s << 4 ^ high_first[s >> 12]);
+#else
         s = (u16)(s << 8 ^ high_first[s >> 8 ^ p[i]]);
+#endif
+    }
     return s;
 }
 

@@ -1,5 +1,6 @@
 pub mod Eights
 pub mod Ends
+pub mod Halves
 pub mod Inverse
 pub mod Joined
 pub mod Linear
@@ -10,5 +11,6 @@ pub mod Passed
 pub mod Register
 pub mod Ruled
 pub mod Shifts
+pub mod Table
 pub mod Turn
 pub mod Unique

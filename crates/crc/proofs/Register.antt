@@ -2,9 +2,9 @@
 use mathlib.Core.Path.{_≡_, refl, sym, ap, ap₂, _∙_}
 use mathlib.Core.Bool.{Bool, true, false}
 use mathlib.Core.List.{List, [], _∷_, _++_, append-assoc, append-nil}
-use Prim.Native.Nat.{ℕ}
-use native.Mathlib.Nat.{suc-inj, suc-ne-zero}
-use lib.ListN.{length}
+use Prim.Native.Nat.{ℕ, zero, suc, _+_}
+use native.Mathlib.Nat.{suc-inj, suc-ne-zero, add-comm, zero-add, suc-add}
+use lib.ListN.{length, length-append}
 use lib.Seq.{append-snoc}
 use Rattle.bits.specs.Rows.{_⊕_, plus, zeros}
 use Rattle.crc.specs.Check.{generator, feed, step, run}
@@ -104,3 +104,25 @@ split (t ∷ hs) (b ∷ bs) ls e h =
     one =
         ap₂ feed (sym (⊕-false (t ⊕ b))) (sym (Z-plus X wide))
         ∙ feed-plus (t ⊕ b) false Z X refl wide
+
+-- ---- bits that come in count as if they stood in the register's first places, before as many zeros
+
+pub entered : (r bs : List Bool) (k : ℕ) → length r ≡ 16 → k + length bs ≡ 16 → run r bs ≡ run (plus r (bs ++ zeros k)) (zeros (length bs))
+entered r bs k h w =
+    ap (λ (q : List Bool). run q bs) (sym (plus-Z r h))
+    ∙ apart r Z bs n h refl refl
+    ∙ ap (plus (run r (zeros n)))
+    (sym (split bs (zeros n) (zeros k) (sym (length-zeros n)) wide
+    ∙ ap₂ plus (ap (run Z) (plus-zeros bs)) (ap (λ (m : ℕ). zeros k ++ zeros m) (length-zeros n) ∙ zeros-append k n ∙ ap zeros w)
+    ∙ plus-Z (run Z bs) (length-run Z bs refl)))
+    ∙ sym (apart r (bs ++ zeros k) (zeros n) n h wide (length-zeros n))
+  where
+    n : ℕ
+    n = length bs
+
+    wide : length (bs ++ zeros k) ≡ 16
+    wide = length-append bs (zeros k) ∙ ap (λ (m : ℕ). length bs + m) (length-zeros k) ∙ add-comm (length bs) k ∙ w
+
+    zeros-append : (m j : ℕ) → zeros m ++ zeros j ≡ zeros (m + j)
+    zeros-append zero j = ap zeros (sym (zero-add j))
+    zeros-append (suc m) j = ap (λ (q : List Bool). false ∷ q) (zeros-append m j) ∙ ap zeros (sym (suc-add m j))

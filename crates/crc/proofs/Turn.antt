@@ -12,7 +12,7 @@ use Rattle.bits.specs.Rows.{plus, zeros, ones, Order, digitsOf, bitsOf, numberO
 use Rattle.crc.specs.Check.{run}
 use Rattle.bits.specs.Rows.Order.{highFirst, lowFirst}
 use Rattle.crc.proofs.Register.{split, length-run}
-use Rattle.bits.proofs.Numbers.{bits-number, number-lt, length-bits, bits-xor, bits-cut, bits-high, bits-low, digits-left, digits-small}
+use Rattle.bits.proofs.Numbers.{bits-number, number-lt, length-bits, bits-xor, bits-cut, bits-high, bits-low, digits-left, digits-zero, digits-small}
 
 -- ---- the j bits of a number of k + j bits that travel first, the other k, and the number when the first have gone
 
@@ -42,12 +42,16 @@ reverse-zeros : (n : ℕ) → reverse (zeros n) ≡ zeros n
 reverse-zeros zero = refl
 reverse-zeros (suc n) = reverse-cons false (zeros n) ∙ ap (λ (r : List Bool). r ++ (false ∷ [])) (reverse-zeros n) ∙ zeros-snoc n
 
-bits-rest : (o : Order) (k j s : ℕ) → s < 2 ^ (k + j) → bitsOf o (k + j) (rest o k j s) ≡ bitsOf o k (second o k j s) ++ zeros j
+pub bits-rest : (o : Order) (k j s : ℕ) → s < 2 ^ (k + j) → bitsOf o (k + j) (rest o k j s) ≡ bitsOf o k (second o k j s) ++ zeros j
 bits-rest highFirst k j s h =
     ap (λ (n : ℕ). bitsOf highFirst n (s * 2 ^ j % 2 ^ n)) (add-comm k j)
     ∙ ap reverse (digits-left j k s) ∙ reverse-append (zeros j) (digitsOf k s)
     ∙ ap₂ (λ (x y : List Bool). x ++ y) (sym (bits-cut highFirst k s)) (reverse-zeros j)
 bits-rest lowFirst k j s h = digits-small k j (s / 2 ^ j) (shr-lt k j h)
+
+pub bits-zero : (o : Order) (j : ℕ) → bitsOf o j 0 ≡ zeros j
+bits-zero highFirst j = ap reverse (digits-zero j) ∙ reverse-zeros j
+bits-zero lowFirst j = digits-zero j
 
 rest-lt : (o : Order) (k j s : ℕ) → s < 2 ^ (k + j) → rest o k j s < 2 ^ (k + j)
 rest-lt highFirst k j s h = mod-lt (s * 2 ^ j) (pow-pos (k + j))

@@ -1,4 +1,4 @@
-// The packet check, by a table of 256 words, and the frame check, eight octets at a time.
+// The packet check, half an octet at a time by a table of sixteen words, and the frame check, eight octets at a time.
 ghost use mathlib.Core.Path.{_≡_};
 ghost use Prim.Native.Nat.{_+_, _*_, _/_, _≤_};
 ghost use lib.ListN.{length, take, drop};
@@ -6,24 +6,43 @@ ghost use Rattle.bits.specs.Rows.{bitsOf, bitsOfAll, zeros};
 ghost use Rattle.crc.specs.Check.{run, register, packetCheck, frameCheck};
 ghost use Rattle.bits.specs.Rows.Order.{lowFirst};
 
-mod table;
-
 // The register at the start: all ones.
 const START: u16 = 0xffff;
 
-// The packet check of octets: high bit first, not complemented. They stay as they are. The register is crc's low 16 bits.
+// Word k is what the register has after the four bits of k, high bit first, from all zeros.
+const HIGH: [u16; 16] = [
+    0x0000,
+    0x1021,
+    0x2042,
+    0x3063,
+    0x4084,
+    0x50a5,
+    0x60c6,
+    0x70e7,
+    0x8108,
+    0x9129,
+    0xa14a,
+    0xb16b,
+    0xc18c,
+    0xd1ad,
+    0xe1ce,
+    0xf1ef,
+];
+
+// The packet check of octets: high bit first, not complemented. They stay as they are. An octet leaves by halves, the high one first.
 pub fn packet_check(octets: &[u8]) -> u16
     ensures { λ r. ⌜ r ≡ packetCheck (now (octets .entry)) ⌝ }
 {
-    let table = table::HIGH;
-    let mut crc = START as u32;
+    let table = HIGH;
+    let mut crc = START;
     let mut i = 0;
     while i < octets.len() {
-        let k = (crc / 256 % 256) ^ (octets[i] as u32);
-        crc = (table[k as usize] as u32) ^ (crc << 8);
+        let high = crc ^ ((octets[i] as u16) << 8);
+        let low = table[(high / 4096) as usize] ^ (high << 4);
+        crc = table[(low / 4096) as usize] ^ (low << 4);
         i += 1;
     }
-    (crc % 65536) as u16
+    crc
 }
 
 // The eight octets from index i on, joined to a number: its bits, low first, are theirs.

@@ -1,48 +1,54 @@
--- `crc::packet_check` meets its contract. The loop's invariant: the low 16 bits of `crc` are the register's after the octets passed.
+-- `crc::packet_check` meets its contract. The loop's invariant: `crc` has the register's bits after the octets passed.
 use mathlib.Core.Path.{refl, sym, _∙_}
-use Prim.Native.Nat.{_-_, _/_, _%_, _<_}
+use Prim.Native.Nat.{_-_, _<_}
+use native.Mathlib.Nat.{mod-lt}
 use native.Mathlib.Omega.{arith}
 use lib.Dec.{lit<}
 use lib.ListN.{length, getD}
-use lib.Bits.{bitXor, xor-zero-r}
+use lib.Pow.{shr-lt}
+use lib.Bits.{xor-lt, xor-zero-r}
 use Rattle.bits.specs.Rows.Order.{highFirst}
-use Rattle.crc.proofs.Turn.{tableWord}
-use Rattle.crc.proofs.Passed.{passed-all, right, Tabled, tabled-none, wide-place, wide-word, wide-more}
+use Rattle.crc.proofs.Turn.{holds-ones, tableWord}
+use Rattle.crc.proofs.Passed.{passed-all}
+use Rattle.crc.proofs.Table.{right, word-fits}
+use Rattle.crc.proofs.Halves.{Halves, halves-more}
 use Rattle.crc.proofs.packet_check.Statement.{statement}
 use Rattle.crc.proofs.packet_check.Tie as tie
 
 abbrev Inv-loop : tie.InvT-loop
-Inv-loop octets table crc₀ i₀ crc i = Tabled highFirst table octets i (crc % 65536)
+Inv-loop octets table crc₀ i₀ crc i = Halves table octets i crc
 
 abbrev μ-loop : tie.MeasureT-loop
 μ-loop octets table crc₀ i₀ crc i = length octets - i
 
--- the next octet, its place in the table, and the word there
-octet : (c : tie.After-shared-slice-known Inv-loop μ-loop)
-    → getD (c .before .before .before .args .octets .now) (c .before .before .loop .i) 0 < 256
-octet c = omega (arith, c .shared-slice-known .given (c .before .before .loop .i))
-
-inside : (c : tie.After-shared-slice-known Inv-loop μ-loop)
-    → bitXor (c .before .before .loop .crc / 256 % 256) (getD (c .before .before .before .args .octets .now) (c .before .before .loop .i) 0) < 256
-inside c = wide-place (c .before .before .loop .crc) (c .before .before .loop .inv) (octet c)
-
-cast-crc-3 : tie.Need-cast-crc-3 Inv-loop μ-loop
-cast-crc-3 c = omega (arith, wide-word (c .before .before .loop .crc) (c .before .before .loop .inv) refl (octet c))
+abbrev Here : Type 0
+Here = tie.After-shared-slice-known Inv-loop μ-loop
 
 loop-holds : tie.Need-loop-holds Inv-loop μ-loop
 unfolding right tableWord
-loop-holds c = tabled-none highFirst _ _ refl
+loop-holds c = record { words = record { all = refl; words = refl }; passed = record { holds = holds-ones highFirst } }
+
+octet : (c : Here) → getD (c .before .before .before .args .octets .now) (c .before .before .loop .i) 0 < 256
+octet c = omega (arith, c .shared-slice-known .given (c .before .before .loop .i))
+
+-- the place of each half in the table
+high : tie.Need-array-read-low Inv-loop μ-loop
+high c = shr-lt 4 12 (xor-lt 16 _ _ (c .before .before .loop .inv .passed .holds .fits) (mod-lt _ (lit< tt)))
+
+low : tie.Need-array-read-crc Inv-loop μ-loop
+low c = shr-lt 4 12 (xor-lt 16 _ _ (word-fits (c .before .before .loop .inv .words) _ (high c)) (mod-lt _ (lit< tt)))
 
 loop-again : tie.Need-loop-again Inv-loop μ-loop
-loop-again c = wide-more (c .before .before .loop .crc) (c .before .before .loop .inv) refl (c .before .loop-test .taken) (octet c)
+loop-again c = halves-more (c .before .before .loop .inv) (c .before .loop-test .taken) (octet c)
 
 returns : tie.Need-returns Inv-loop μ-loop
-returns c = sym (xor-zero-r (c .before .loop .crc % 65536)) ∙ passed-all (c .before .loop .inv .passed) 0 (c .loop-test .left) (lit< tt)
+returns c = sym (xor-zero-r (c .before .loop .crc)) ∙ passed-all (c .before .loop .inv .passed) 0 (c .loop-test .left) (lit< tt)
 
 pub packet-check-spec : {M : Type 1} → statement M
 packet-check-spec =
     tie.close
-    (tie.spec Inv-loop μ-loop (λ c. omega arith) loop-holds
-    (λ c. omega arith) (λ c. omega (arith, octet c)) (λ c. omega (arith, inside c)) (λ c. omega (arith, inside c)) inside cast-crc-3
-    (λ c. omega arith) (λ c. omega arith)
-    loop-again (λ c. omega arith) returns)
+    (tie.spec Inv-loop μ-loop loop-holds
+    (λ c. omega arith) (λ c. omega (arith, octet c))
+    (λ c. omega (arith, high c)) (λ c. omega (arith, high c)) high
+    (λ c. omega (arith, low c)) (λ c. omega (arith, low c)) low
+    (λ c. omega arith) (λ c. omega arith) loop-again returns)
