@@ -187,9 +187,11 @@ static int frame_refusal(const u8 *f, size_t n, size_t t)
 
 /* ---- The session */
 
+/* `first` is the arrival number of the frame with the first octet held. */
 struct channel {
     u8 heard, in_step, last;
     u16 length;
+    u32 first;
     u8 held[PACKET_MOST];
 };
 
@@ -198,13 +200,13 @@ static u8 master_heard, master_last;
 
 struct piece {
     const u8 *octets;
-    u32 length;
+    u32 length, first;
 };
 static struct piece packets[16];
 static u8 finished[PACKET_MOST];
 
 /* Rules 2 to 5 for one frame's data; how many packets it completes, which stand in `packets`. */
-static u32 take(struct channel *c, u32 pointer, const u8 *data, u32 n)
+static u32 take(struct channel *c, u32 arrival, u32 pointer, const u8 *data, u32 n)
 {
     u32 at = 0, count = 0;
     if (pointer == RAW)
@@ -226,7 +228,7 @@ static u32 take(struct channel *c, u32 pointer, const u8 *data, u32 n)
                 if (pointer == wanted && rest <= n) {
                     memcpy(finished, c->held, held);
                     memcpy(finished + held, data, rest);
-                    packets[count++] = (struct piece){ finished, whole };
+                    packets[count++] = (struct piece){ finished, whole, c->first };
                     c->length = 0;
                     at = rest;
                 }
@@ -253,9 +255,11 @@ static u32 take(struct channel *c, u32 pointer, const u8 *data, u32 n)
             }
             if (whole > n - at)
                 break;
-            packets[count++] = (struct piece){ data + at, whole };
+            packets[count++] = (struct piece){ data + at, whole, arrival };
             at += whole;
         }
+    if (c->length == 0)
+        c->first = arrival;
     memcpy(c->held + c->length, data + at, n - at);
     c->length += n - at;
     return count;
@@ -293,10 +297,11 @@ static int packet_refusal(const u8 *p, u32 n)
     return 0;
 }
 
-static void packet_line(u32 arrival, const u8 *p, u32 n)
+static void packet_line(u32 first, u32 arrival, const u8 *p, u32 n)
 {
     int refusal = packet_refusal(p, n);
     *out_at++ = refusal ? 'Q' : 'P';
+    next(first);
     next(arrival);
     if (refusal) {
         next((u32)refusal);
@@ -328,14 +333,14 @@ static void frame_lines(u32 arrival, const u8 *f, size_t n, size_t t)
         c->length = 0;
         c->in_step = 0;
     }
-    u32 count = take(c, f[HEADER + 3], f + HEADER + 4, (u32)(n - FRAME_LEAST - t));
+    u32 count = take(c, arrival, f[HEADER + 3], f + HEADER + 4, (u32)(n - FRAME_LEAST - t));
     next(f[HEADER] >> 3);
     loss(lost);
     loss(master);
     next(count);
     *out_at++ = '\n';
     for (u32 i = 0; i < count; i++)
-        packet_line(arrival, packets[i].octets, packets[i].length);
+        packet_line(packets[i].first, arrival, packets[i].octets, packets[i].length);
 }
 
 /* Whether the recording is a good one. */

@@ -10,7 +10,7 @@ use lib.Dec.{eqb}
 use Rattle.answer.specs.Told.{Told}
 use Rattle.frame.specs.declared.Frame.{Frame}
 use Rattle.rules.specs.Channel as rules
-use Rattle.rules.specs.Packets.{bare, joined}
+use Rattle.rules.specs.Packets.{bare, joined, firsts}
 use Rattle.rules.specs.Bounds.{Under}
 use Rattle.session.specs.declared.Session.{Session}
 use Rattle.session.specs.Channel.{view, stored, fresh}
@@ -22,7 +22,7 @@ use Rattle.session.proofs.Staying.{view-stored}
 use Rattle.sender.specs.Sender.{when}
 use Rattle.delivery.specs.Delivered.{Report}
 use Rattle.delivery.specs.Channels.{report}
-use Rattle.delivery.specs.Run.{Call, pieces, readOut, took, reportOf}
+use Rattle.delivery.specs.Run.{Call, pieces, numbered, readOut, took, reportOf}
 
 -- packets laid end to end, and cut off again by their lengths
 pub pieces-joined : (ps : List (List ℕ)) (xs ys : List ℕ) → pieces (length ps) (joined ps ++ xs) (map length ps ++ ys) ≡ ps
@@ -33,20 +33,19 @@ pieces-joined (p ∷ ps) xs ys =
     let back : drop (length p) ((p ++ joined ps) ++ xs) ≡ joined ps ++ xs = ap (drop (length p)) cut ∙ drop-append-seam p (joined ps ++ xs) in
     rw (front, back, pieces-joined ps xs ys)
 
-abbrev under : ℕ → List (List ℕ) → List rules.Handed
-under a ps = map (λ (p : List ℕ). rules.given a (rules.heldOf p)) ps
-
-under-bare : (a : ℕ) (ps : List rules.Handed) → Under a ps → under a (bare ps) ≡ ps
-under-bare a [] u = refl
-under-bare a (p ∷ ps) u =
-    ap (λ (n : ℕ). rules.given n (rules.heldOf (p .packet)) ∷ under a (bare ps)) (sym (u .0))
-    ∙ ap (λ (l : List rules.Handed). p ∷ l) (under-bare a ps (u .1))
+numbered-back : (a : ℕ) (ps : List rules.Handed) (ns : List ℕ) → Under a ps → numbered a (bare ps) (firsts ps ++ ns) ≡ ps
+numbered-back a [] ns u = refl
+numbered-back a (p ∷ ps) ns u =
+    ap (λ (n : ℕ). rules.given n (rules.heldOf (p .first) (p .packet)) ∷ numbered a (bare ps) (firsts ps ++ ns)) (sym (u .0))
+    ∙ ap (λ (l : List rules.Handed). p ∷ l) (numbered-back a ps ns (u .1))
 
 -- packets handed out under one arrival number are read out again
 pub read-back : (a n : ℕ) (ps : List rules.Handed) (l : Lent) → Under a ps → n ≡ length ps → readOut a n (laid ps l) ≡ ps
 read-back a n ps l u e =
     let count : n ≡ length (bare ps) = e ∙ sym (length-map ps (λ (x : rules.Handed). x .packet)) in
-    ap (λ (k : ℕ). readOut a k (laid ps l)) count ∙ ap (under a) (pieces-joined (bare ps) _ _) ∙ under-bare a ps u
+    ap (λ (k : ℕ). readOut a k (laid ps l)) count
+    ∙ ap (λ (qs : List (List ℕ)). numbered a qs (laid ps l .firsts)) (pieces-joined (bare ps) _ _)
+    ∙ numbered-back a ps _ u
 
 -- what an answer and what was lent say of channel v
 abbrev pub said : ℕ → Told Accepted → Lent → List Report

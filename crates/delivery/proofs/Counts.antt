@@ -10,7 +10,7 @@ use Rattle.counts.proofs.Laws.{gap-on}
 use Rattle.counts.specs.declared.Loss.{Loss}
 use Rattle.counts.specs.declared.Loss.the-variants.{Unknown, Known}
 use Rattle.counts.specs.Lost.{lostSince, number}
-use Rattle.rules.specs.Channel.{Held, nothing, answer, Piece, Channel, Work, follow, afterLoss, step, fresh}
+use Rattle.rules.specs.Channel.{Held, nothing, cleared, answer, Piece, Channel, Work, follow, afterLoss, step, fresh}
 use Rattle.sender.specs.Stream.{nextCount}
 use Rattle.delivery.specs.Link.{Fate, lost, got}
 use Rattle.delivery.specs.Expected.{piece, oneMore, toldAs, lossesAfter, expectedLosses, AtMost, mostLost}
@@ -26,12 +26,12 @@ eager d b h [] = []
 eager d b h (lost f ∷ ss) = eager (oneMore d) false nothing ss
 eager d b h (got a f ∷ ss) =
     reported a (toldAs d) (follow a b h (f .pointer) (f .octets))
-    ∷ eager (some 0) (follow a b h (f .pointer) (f .octets) .inStep) (follow a b h (f .pointer) (f .octets) .held) ss
+    ∷ eager (some 0) (follow a b h (f .pointer) (f .octets) .inStep) (cleared (follow a b h (f .pointer) (f .octets) .held)) ss
 
 pub eager-losses : (d : Option ℕ) (b : Bool) (h : Held) (ss : List Fate) → losses (eager d b h ss) ≡ lossesAfter d ss
 eager-losses d b h [] = refl
 eager-losses d b h (lost f ∷ ss) = eager-losses (oneMore d) false nothing ss
-eager-losses d b h (got a f ∷ ss) = rw (eager-losses (some 0) (follow a b h (f .pointer) (f .octets) .inStep) (follow a b h (f .pointer) (f .octets) .held) ss)
+eager-losses d b h (got a f ∷ ss) = rw (eager-losses (some 0) (follow a b h (f .pointer) (f .octets) .inStep) (cleared (follow a b h (f .pointer) (f .octets) .held)) ss)
 
 abbrev pub Counted : ℕ → List Fate → Type 0
 Counted c [] = Unit {0}
@@ -74,8 +74,8 @@ after-first (got a f ∷ ss) l d c b h hl hc k m =
     let n : ℕ = f .count in
     let w : Work = follow a (still d b) (kept d h) (f .pointer) (f .octets) in
     let e : lostSince (some l) n ≡ Known d = lost-is l d n (omega (arith, m .0)) (k .0 ∙ hc) in
-    let ih : run (at n (w .inStep) (w .held)) (offered ss) ≡ eager (some 0) (w .inStep) (w .held) ss =
-    after-first ss n 0 (nextCount c) (w .inStep) (w .held) (omega (arith, k .0)) (omega (arith, k .0)) (k .1) (m .1) in
+    let ih : run (at n (w .inStep) (cleared (w .held))) (offered ss) ≡ eager (some 0) (w .inStep) (cleared (w .held)) ss =
+    after-first ss n 0 (nextCount c) (w .inStep) (cleared (w .held)) (omega (arith, k .0)) (omega (arith, k .0)) (k .1) (m .1) in
     rw (step-is a (at l b h) f (Known d) e, ih)
 
 pub counts : (ss : List Fate) (c : ℕ) → c < 256 → Counted c ss → AtMost mostLost (expectedLosses ss)
@@ -86,6 +86,6 @@ counts (lost f ∷ ss) c hc k m = counts ss (nextCount c) (omega arith) (k .1) m
 counts (got a f ∷ ss) c hc k m =
     let n : ℕ = f .count in
     let w : Work = follow a false nothing (f .pointer) (f .octets) in
-    let ih : run (at n (w .inStep) (w .held)) (offered ss) ≡ eager (some 0) (w .inStep) (w .held) ss =
-    after-first ss n 0 (nextCount c) (w .inStep) (w .held) (omega (arith, k .0)) (omega (arith, k .0)) (k .1) (m .1) in
+    let ih : run (at n (w .inStep) (cleared (w .held))) (offered ss) ≡ eager (some 0) (w .inStep) (cleared (w .held)) ss =
+    after-first ss n 0 (nextCount c) (w .inStep) (cleared (w .held)) (omega (arith, k .0)) (omega (arith, k .0)) (k .1) (m .1) in
     rw (step-is a fresh f Unknown refl, ih)

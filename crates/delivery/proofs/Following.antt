@@ -9,7 +9,7 @@ use lib.ListN.{length, getD, take, drop, replicate}
 use lib.Seq.{slice, slice-empty}
 use lib.Dec.{eqb}
 use borrow.Author.Tests.{ne-eqb}
-use Rattle.rules.specs.Channel.{Piece, Held, nothing, Work, feed, holding, outOfStep, follow, enter, fits, pointerTo}
+use Rattle.rules.specs.Channel.{Piece, Held, nothing, cleared, Work, feed, holding, outOfStep, follow, enter, fits, pointerTo}
 use Rattle.rules.specs.Packets.{AllGood, joined}
 use Rattle.rules.proofs.Standing.{Order, upTo, past, order}
 use Rattle.sender.proofs.Sending.{restAfter, packetsAfter}
@@ -17,7 +17,7 @@ use Rattle.delivery.specs.Link.{Fate, lost, got}
 use Rattle.delivery.specs.Expected.{isGot, arrivalOf, allGot, arrived, nowhere}
 use Rattle.delivery.proofs.Facts.{got-step, drop-get, drop-lt, fits-between, fits-held, not-raw, pointer-none, pointer-some}
 use Rattle.delivery.proofs.Walk.{walk}
-use Rattle.delivery.proofs.Octets.{Begun, Taken, takes, Missed, skip-all, missed-all, left, Skipped, skip-to}
+use Rattle.delivery.proofs.Octets.{Begun, begun-some, Taken, takes, Missed, skip-all, missed-all, left, Skipped, skip-to}
 
 module _ (ss : List Fate) where
   -- Before frame k: the begun packet, if any, has lost a frame among those before k
@@ -35,7 +35,7 @@ module _ (ss : List Fate) where
 
   -- The channel before frame k, its losses seen at once: in step it holds what is sent of the begun packet, all of whose frames arrived.
   abbrev pub Inv : ℕ → Bool → Held → ℕ → List ℕ → List ℕ → Type 0
-  Inv k true h i p r = Begun (allGot (slice i k ss) ≡ true) k i h r p
+  Inv k true h i p r = Begun ss (allGot (slice i k ss) ≡ true) k i h r p
   Inv k false h i p r = Out k h i r
 
   got-now : (k a i : ℕ) (f : Piece) (t : List Fate) → drop k ss ≡ got a f ∷ t → i ≤ k → arrived ss i k ≡ allGot (slice i k ss)
@@ -61,24 +61,31 @@ module _ (ss : List Fate) where
   after-missed k i p [] m = record { empty = refl; gap = tt }
   after-missed k i p (x ∷ r) m = record { empty = refl; gap = record { begun = omega (arith, m .begun); missed = m .missed } }
 
-  after-begun : (k i : ℕ) (h : Held) (p r : List ℕ) → Begun (arrived ss i k ≡ true) k i h r p → Inv (suc k) true h i p r
+  after-begun : (k i : ℕ) (h : Held) (p r : List ℕ) → Begun ss (arrived ss i k ≡ true) k i h r p → Inv (suc k) true h i p r
   after-begun k i h p [] m = m
-  after-begun k i h p (x ∷ r) m = record { all = m .all; some = m .some; good = m .good; begun = omega (arith, m .begun); arrives = m .arrives }
+  after-begun k i h p (x ∷ r) m = record { all = m .all; some = m .some; good = m .good; begun = omega (arith, m .begun); arrives = m .arrives; first = m .first }
+
+  -- as the channel holds it
+  pub cleared-inv : (k : ℕ) (b : Bool) (h : Held) (i : ℕ) (p r : List ℕ) → Inv k b h i p r → Inv k b (cleared h) i p r
+  cleared-inv k true h i p [] v = ap cleared v
+  cleared-inv k true h i p (x ∷ r) v =
+      record { all = v .all; some = v .some; good = v .good; begun = v .begun; arrives = v .arrives; first = begun-some 0 (h .first) (length (h .octets)) (v .some) ∙ v .first }
+  cleared-inv k false h i p r v = record { empty = ap cleared (v .empty); gap = v .gap }
 
   -- a raw frame that arrived changes nothing
   pub after-raw : (k a i : ℕ) (f : Piece) (t : List Fate) → drop k ss ≡ got a f ∷ t → (b : Bool) (h : Held) (p r : List ℕ) → Inv k b h i p r → Inv (suc k) b h i p r
   after-raw k a i f t e true h p [] v = v
   after-raw k a i f t e false h p [] v = record { empty = v .empty; gap = tt }
   after-raw k a i f t e true h p (x ∷ r) v =
-      record { all = v .all; some = v .some; good = v .good; begun = omega (arith, v .begun); arrives = got-now k a i f t e (v .begun) ∙ v .arrives }
+      record { all = v .all; some = v .some; good = v .good; begun = omega (arith, v .begun); arrives = got-now k a i f t e (v .begun) ∙ v .arrives; first = v .first }
   after-raw k a i f t e false h p (x ∷ r) v =
       record { empty = v .empty; gap = record { begun = omega (arith, v .gap .begun); missed = got-now k a i f t e (v .gap .begun) ∙ v .gap .missed } }
 
   now-begun : (k a i : ℕ) (f : Piece) (t : List Fate) → drop k ss ≡ got a f ∷ t → (h : Held) (p r : List ℕ) → Inv k true h i p r
-      → Begun (arrived ss i k ≡ true) k i h r p
+      → Begun ss (arrived ss i k ≡ true) k i h r p
   now-begun k a i f t e h p [] v = v
   now-begun k a i f t e h p (x ∷ r) v =
-      record { all = v .all; some = v .some; good = v .good; begun = v .begun; arrives = got-now k a i f t e (v .begun) ∙ v .arrives }
+      record { all = v .all; some = v .some; good = v .good; begun = v .begun; arrives = got-now k a i f t e (v .begun) ∙ v .arrives; first = v .first }
 
   now-missed : (k a i : ℕ) (f : Piece) (t : List Fate) → drop k ss ≡ got a f ∷ t → (h : Held) (p r : List ℕ) → Inv k false h i p r → Missed ss k i r
   now-missed k a i f t e h p [] v = tt

@@ -1,4 +1,4 @@
--- Calls that do what is promised, for anything offered: one for each, with 501 octets and 16 lengths lent.
+-- Calls that do what is promised, for anything offered: one for each, with 501 octets, 16 lengths and 16 first numbers lent.
 use mathlib.Core.Path.{_≡_, refl, ap}
 use mathlib.Core.List.{List, [], _∷_, map}
 use mathlib.Core.Bool.{Bool, true, false}
@@ -15,7 +15,7 @@ use Rattle.session.specs.declared.Session.{Session}
 use Rattle.session.specs.declared.StepAnswer.{StepAnswer}
 use Rattle.session.specs.declared.StepAnswer.the-variants as answer
 use Rattle.session.specs.declared.Accepted.{Accepted}
-use Rattle.session.specs.Lent.{Lent, lent, laid}
+use Rattle.session.specs.Lent.{Lent, lent, Enough, laid}
 use Rattle.session.specs.Step.{told, Outcome, refused, counted, accepted, heeded, outcome, turnedAway}
 use Rattle.session.specs.Statements.{Stretch, found, unread, offered}
 use Rattle.session.proofs.Admitting.{admitted-picks}
@@ -48,7 +48,7 @@ offer-tells s (found x) l = admitted-picks Says s l _ (λ a. heeded-tells (count
 offer-tells s (unread n) l = admitted-picks Says s l (refused (counted s) n) (λ a. refl) (λ n e. refl)
 
 abbrev zeros : Lent
-zeros = lent (replicate mostOctets 0) (replicate mostPackets 0)
+zeros = lent (replicate mostOctets 0) (replicate mostPackets 0) (replicate mostPackets 0)
 
 module _ (s : Session) (x : Stretch) where
   abbrev made : Outcome
@@ -71,10 +71,15 @@ calls-run s [] = tt
 calls-run s (x ∷ xs) =
     (record { session = refl; answers = offer-tells s x zeros; leaves = refl }, calls-run (made s x .session) xs)
 
+enough : Enough zeros
+enough =
+    let entries = length-replicate {A = ℕ} mostPackets 0 in
+    record { octets = omega (arith, length-replicate {A = ℕ} mostOctets 0); lengths = omega arith; firsts = omega arith }
+
 pub calls-room : (s : Session) (xs : List Stretch) → Room (callsOf s xs)
 calls-room s [] = tt
 calls-room s (x ∷ xs) =
-    (record { octets = omega (arith, length-replicate {A = ℕ} mostOctets 0); lengths = omega (arith, length-replicate {A = ℕ} mostPackets 0) }, calls-room (made s x .session) xs)
+    (enough, calls-room (made s x .session) xs)
 
 pub calls-offer : (s : Session) (xs : List Stretch) → map offerOf (callsOf s xs) ≡ xs
 calls-offer s [] = refl

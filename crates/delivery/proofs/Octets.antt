@@ -5,7 +5,7 @@ use mathlib.Core.Bool.{true, false}
 use Prim.Native.Nat.{ℕ, zero, suc, _+_, _≤_, _<_}
 use native.Mathlib.Omega.{arith}
 use lib.ListN.{length, getD, take, drop, length-append, replicate}
-use Rattle.rules.specs.Channel.{heldOf, Held, nothing, grown, Handed, given, unfinished, whole, standing, push, feed, holding}
+use Rattle.rules.specs.Channel.{heldOf, Held, nothing, begunIn, grown, Handed, given, unfinished, whole, standing, push, feed, holding}
 use Rattle.rules.specs.Packets.{Good, AllGood, joined}
 use Rattle.sender.proofs.Sending.{restAfter, packetsAfter}
 use Rattle.delivery.specs.Link.{Fate}
@@ -14,16 +14,21 @@ use Rattle.rules.proofs.Standing.{standing-whole, standing-unfinished}
 use Rattle.delivery.proofs.Walk.{walk, begin}
 
 -- The packet p, begun in frame i, in which h is sent and r is not: `ok` says that its frames arrived so far.
-pub record Part (ok : Type 0) (k i : ℕ) (h : Held) (rest p : List ℕ) : Type 0 where
+pub record Part (ss : List Fate) (ok : Type 0) (k i : ℕ) (h : Held) (rest p : List ℕ) : Type 0 where
   pub all : h .octets ++ rest ≡ p
   pub some : 0 < length (h .octets)
   pub good : Good p
   pub begun : i ≤ k
   pub arrives : ok
+  pub first : h .first ≡ arrivalOf (getD ss i nowhere)
 
-abbrev pub Begun : Type 0 → ℕ → ℕ → Held → List ℕ → List ℕ → Type 0
-Begun ok k i h [] p = h ≡ nothing
-Begun ok k i h (x ∷ r) p = Part ok k i h (x ∷ r) p
+abbrev pub Begun : List Fate → Type 0 → ℕ → ℕ → Held → List ℕ → List ℕ → Type 0
+Begun ss ok k i h [] p = h ≡ nothing
+Begun ss ok k i h (x ∷ r) p = Part ss ok k i h (x ∷ r) p
+
+pub begun-some : (a first n : ℕ) → 0 < n → begunIn a first n ≡ first
+begun-some a first zero h = absurd (omega arith)
+begun-some a first (suc n) h = refl
 
 -- A frame k that arrived under the number a, in step: n octets more
 module _ (ss : List Fate) (k a : ℕ) (arr : arrivalOf (getD ss k nowhere) ≡ a) (own : List ℕ) where
@@ -35,24 +40,24 @@ module _ (ss : List Fate) (k a : ℕ) (arr : arrivalOf (getD ss k nowhere) ≡ a
     pub fed : feed a (holding h acc) (take n (r ++ joined ps)) ≡ holding held (acc ++ out)
     pub same : walk ss i p r ps (replicate (length (take n (r ++ joined ps))) k ++ own)
         ≡ out ++ walk ss start packet (restAfter n r ps) (packetsAfter n r ps) own
-    pub begins : Begun (arrived ss start k ≡ true) k start held (restAfter n r ps) packet
+    pub begins : Begun ss (arrived ss start k ≡ true) k start held (restAfter n r ps) packet
     pub good : AllGood (packetsAfter n r ps)
 
   abbrev Takes : ℕ → Type 0
   Takes n = (h : Held) (r : List ℕ) (ps : List (List ℕ)) (acc : List Handed) (i : ℕ) (p : List ℕ) → AllGood ps
-      → Begun (arrived ss i k ≡ true) k i h r p → Taken n h r ps acc i p
+      → Begun ss (arrived ss i k ≡ true) k i h r p → Taken n h r ps acc i p
 
   -- an octet that is not its packet's last; and one that is
   take-more : (n : ℕ) → Takes n → (h : Held) (x y : ℕ) (r : List ℕ) (ps : List (List ℕ)) (acc : List Handed) (i : ℕ) (p : List ℕ) → AllGood ps
-      → h .octets ++ x ∷ y ∷ r ≡ p → Good p → i ≤ k → arrived ss i k ≡ true
+      → h .octets ++ x ∷ y ∷ r ≡ p → Good p → i ≤ k → arrived ss i k ≡ true → begunIn a (h .first) (length (h .octets)) ≡ arrivalOf (getD ss i nowhere)
       → Taken (suc n) h (x ∷ y ∷ r) ps acc i p
   unfolding push
-  take-more n rec h x y r ps acc i p gs e g l ok =
+  take-more n rec h x y r ps acc i p gs e g l ok fi =
       let h′ : List ℕ = h .octets ++ x ∷ [] in
       let e′ : h′ ++ y ∷ r ≡ p = append-assoc (h .octets) (x ∷ []) (y ∷ r) ∙ e in
       let st : standing h′ ≡ unfinished = standing-unfinished h′ (y ∷ r) p e′ g (omega arith) in
       let len : length h′ ≡ length (h .octets) + 1 = length-append (h .octets) (x ∷ []) in
-      let t : Taken n (grown h x) (y ∷ r) ps acc i p = rec (grown h x) (y ∷ r) ps acc i p gs (record { all = e′; some = omega arith; good = g; begun = l; arrives = ok }) in
+      let t : Taken n (grown a h x) (y ∷ r) ps acc i p = rec (grown a h x) (y ∷ r) ps acc i p gs (record { all = e′; some = omega arith; good = g; begun = l; arrives = ok; first = fi }) in
       record {
         out = t .out;
         held = t .held;
@@ -65,15 +70,15 @@ module _ (ss : List Fate) (k a : ℕ) (arr : arrivalOf (getD ss k nowhere) ≡ a
       }
 
   take-last : (n : ℕ) → Takes n → (h : Held) (x : ℕ) (ps : List (List ℕ)) (acc : List Handed) (i : ℕ) (p : List ℕ) → AllGood ps
-      → h .octets ++ x ∷ [] ≡ p → Good p → i ≤ k → arrived ss i k ≡ true
+      → h .octets ++ x ∷ [] ≡ p → Good p → i ≤ k → arrived ss i k ≡ true → begunIn a (h .first) (length (h .octets)) ≡ arrivalOf (getD ss i nowhere)
       → Taken (suc n) h (x ∷ []) ps acc i p
   unfolding push
-  take-last n rec h x ps acc i p gs e g l ok =
+  take-last n rec h x ps acc i p gs e g l ok fi =
       let h′ : List ℕ = h .octets ++ x ∷ [] in
-      let g′ : Handed = given a (grown h x) in
+      let g′ : Handed = given a (grown a h x) in
       let st : standing h′ ≡ whole = standing-whole h′ [] p (append-nil h′ ∙ e) g refl in
       let t : Taken n nothing [] ps (acc ++ g′ ∷ []) i p = rec nothing [] ps (acc ++ g′ ∷ []) i p gs refl in
-      let is : given a (heldOf p) ≡ g′ = rw (← e) in
+      let is : given a (heldOf (arrivalOf (getD ss i nowhere)) p) ≡ g′ = rw (← e, ← fi) in
       record {
         out = g′ ∷ t .out;
         held = t .held;
@@ -88,13 +93,13 @@ module _ (ss : List Fate) (k a : ℕ) (arr : arrivalOf (getD ss k nowhere) ≡ a
       }
 
   take-octet : (n : ℕ) → Takes n → (h : Held) (x : ℕ) (r : List ℕ) (ps : List (List ℕ)) (acc : List Handed) (i : ℕ) (p : List ℕ) → AllGood ps
-      → h .octets ++ x ∷ r ≡ p → Good p → i ≤ k → arrived ss i k ≡ true
+      → h .octets ++ x ∷ r ≡ p → Good p → i ≤ k → arrived ss i k ≡ true → begunIn a (h .first) (length (h .octets)) ≡ arrivalOf (getD ss i nowhere)
       → Taken (suc n) h (x ∷ r) ps acc i p
-  take-octet n rec h x [] ps acc i p gs e g l ok = take-last n rec h x ps acc i p gs e g l ok
-  take-octet n rec h x (y ∷ r) ps acc i p gs e g l ok = take-more n rec h x y r ps acc i p gs e g l ok
+  take-octet n rec h x [] ps acc i p gs e g l ok fi = take-last n rec h x ps acc i p gs e g l ok fi
+  take-octet n rec h x (y ∷ r) ps acc i p gs e g l ok fi = take-more n rec h x y r ps acc i p gs e g l ok fi
 
   none : (n : ℕ) (h : Held) (r : List ℕ) (ps : List (List ℕ)) (acc : List Handed) (i : ℕ) (p : List ℕ) → AllGood ps
-      → Begun (arrived ss i k ≡ true) k i h r p → Taken 0 h r ps acc i p
+      → Begun ss (arrived ss i k ≡ true) k i h r p → Taken 0 h r ps acc i p
   none n h r ps acc i p gs b = record {
     out = [];
     held = h;
@@ -109,7 +114,7 @@ module _ (ss : List Fate) (k a : ℕ) (arr : arrivalOf (getD ss k nowhere) ≡ a
   pub takes : arrived ss k k ≡ true → (n : ℕ) → Takes n
   takes here zero h r ps acc i p gs b = none 0 h r ps acc i p gs b
   takes here (suc n) h (x ∷ r) ps acc i p gs b =
-      take-octet n (takes here n) h x r ps acc i p gs (b .all) (b .good) (b .begun) (b .arrives)
+      take-octet n (takes here n) h x r ps acc i p gs (b .all) (b .good) (b .begun) (b .arrives) (begun-some a (h .first) (length (h .octets)) (b .some) ∙ b .first)
   takes here (suc n) h [] [] acc i p gs b = record {
     out = [];
     held = h;
@@ -123,7 +128,7 @@ module _ (ss : List Fate) (k a : ℕ) (arr : arrivalOf (getD ss k nowhere) ≡ a
   takes here (suc n) h [] ([] ∷ ps) acc i p gs b = absurd (omega (arith, gs .0 .least))
   takes here (suc n) h [] ((x ∷ q) ∷ ps) acc i p gs b =
       let t : Taken (suc n) nothing (x ∷ q) ps acc k (x ∷ q) =
-      take-octet n (takes here n) nothing x q ps acc k (x ∷ q) (gs .1) refl (gs .0) (omega arith) here in
+      take-octet n (takes here n) nothing x q ps acc k (x ∷ q) (gs .1) refl (gs .0) (omega arith) here (sym arr) in
       record {
         out = t .out;
         held = t .held;

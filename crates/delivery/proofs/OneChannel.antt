@@ -6,7 +6,7 @@ use mathlib.Core.Bool.{Bool, false}
 use Prim.Native.Nat.{ℕ, suc, _≤_, _<_}
 use native.Mathlib.Omega.{arith}
 use lib.ListN.{length, take, drop}
-use Rattle.rules.specs.Channel.{Piece, Held, nothing, Handed, Work, follow, pointerTo, fresh}
+use Rattle.rules.specs.Channel.{Piece, Held, nothing, cleared, Handed, Work, follow, pointerTo, fresh}
 use Rattle.rules.specs.Packets.{AllGood, joined}
 use Rattle.sender.specs.Stream.{Choice, raw, next, nextCount, framesBy}
 use Rattle.sender.proofs.Sending.{frames-cut, restAfter, packetsAfter, nextPiece, cutInto}
@@ -17,7 +17,7 @@ use Rattle.delivery.specs.Channels.{offered, run}
 use Rattle.delivery.proofs.Facts.{nil-cons, drop-suc, carries-next}
 use Rattle.delivery.proofs.Counts.{eager, eager-losses, Counted, counts}
 use Rattle.delivery.proofs.Walk.{walk, expected-none}
-use Rattle.delivery.proofs.Following.{Inv, Stepped, lost-now, missed-now, after-missed, after-raw, got-any}
+use Rattle.delivery.proofs.Following.{Inv, cleared-inv, Stepped, lost-now, missed-now, after-missed, after-raw, got-any}
 use Rattle.delivery.proofs.Octets.{Gone, gone}
 
 -- no frame has more than 251 octets of data
@@ -57,7 +57,8 @@ module _ (ss : List Fate) where
       let here : f ≡ record { count = c; pointer = 254; octets = xs } = cc in
       let rest : map piece t ≡ cutInto (nextCount c) r ps cs = cc in
       rw (here, follow-raw a b h xs)
-      (main t cs (nextCount c) (suc k) (some 0) b h i p r ps (drop-suc ss k (got a f) t d) rest gs (sz .1) (after-raw ss k a i f t d b h p r v))
+      (main t cs (nextCount c) (suc k) (some 0) b (cleared h) i p r ps (drop-suc ss k (got a f) t d) rest gs (sz .1)
+      (cleared-inv ss (suc k) b h i p r (after-raw ss k a i f t d b h p r v)))
   main (got a f ∷ t) (next n ∷ cs) c k o b h i p r ps d e gs sz v =
       let here : f ≡ nextPiece c r ps n = cc in
       let rest : map piece t ≡ cutInto (nextCount c) (restAfter n r ps) (packetsAfter n r ps) cs = cc in
@@ -66,8 +67,8 @@ module _ (ss : List Fate) where
       let g : Stepped ss k a i p r ps n (owners (suc k) t) w = got-any ss k a f t d n (owners (suc k) t) b h p r i ps gs v small in
       rw (here, carries-next c r ps n small, g .same)
       (ap (λ (l : List Handed). w .packets ++ l)
-      (main t cs (nextCount c) (suc k) (some 0) (w .inStep) (w .held) (g .start) (g .packet) (restAfter n r ps) (packetsAfter n r ps)
-      (drop-suc ss k (got a f) t d) rest (g .good) (sz .1) (g .inv)))
+      (main t cs (nextCount c) (suc k) (some 0) (w .inStep) (cleared (w .held)) (g .start) (g .packet) (restAfter n r ps) (packetsAfter n r ps)
+      (drop-suc ss k (got a f) t d) rest (g .good) (sz .1) (cleared-inv ss (suc k) (w .inStep) (w .held) (g .start) (g .packet) (restAfter n r ps) (g .inv))))
 
 counted : (t : List Fate) (cs : List Choice) (c : ℕ) (r : List ℕ) (ps : List (List ℕ)) → map piece t ≡ cutInto c r ps cs → Counted c t
 counted [] cs c r ps e = tt

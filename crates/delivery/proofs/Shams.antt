@@ -9,18 +9,18 @@ use Rattle.counts.specs.Lost.{lostSince, number}
 use Rattle.rules.specs.Channel.{Handed, standing, push, placeAfter, lengthHolds, enter, follow, step}
 use Rattle.rules.specs.Packets.{AllGood}
 use Rattle.rules.specs.BothSides.{out}
-use Rattle.sender.specs.Stream.{next}
+use Rattle.sender.specs.Stream.{raw, next}
 use Rattle.delivery.specs.Expected.{LostAt}
-use Rattle.delivery.specs.Corners.{two, first, gap}
+use Rattle.delivery.specs.Corners.{two, atFirst, gap, split, raws}
 use Rattle.delivery.specs.Shams.{Within, plain, parted, Shams}
 use Rattle.delivery.proofs.Corners.{good-16, good-30}
 
--- what tells two lists apart: how many, the second's length, its arrival number
+-- what tells two lists apart: how many, the first's length, an arrival number of one
 abbrev second : List Handed → Handed
-second ps = getD ps 1 (out 0 [])
+second ps = getD ps 1 (out 0 0 [])
 
-second-lost : {ls ms : List LostAt} → ls ≡ ms → number (getD ls 1 (first 0) .lost) ≡ number (getD ms 1 (first 0) .lost)
-second-lost e = ap (λ (ls : List LostAt). number (getD ls 1 (first 0) .lost)) e
+second-lost : {ls ms : List LostAt} → ls ≡ ms → number (getD ls 1 (atFirst 0) .lost) ≡ number (getD ms 1 (atFirst 0) .lost)
+second-lost e = ap (λ (ls : List LostAt). number (getD ls 1 (atFirst 0) .lost)) e
 
 two-good : AllGood two
 two-good = (good-16, (good-30, tt))
@@ -56,6 +56,26 @@ gap-within = record {
   gaps = (lit≤ tt, (lit≤ tt, (lit≤ tt, tt)));
 }
 
+split-within : Within two split
+split-within = record {
+  good = two-good;
+  choices = next 16 ∷ next 3 ∷ next 1 ∷ next 2 ∷ next 251 ∷ [];
+  first = 0;
+  small = lit< tt;
+  sent = refl;
+  gaps = (lit≤ tt, (lit≤ tt, (lit≤ tt, (lit≤ tt, (lit≤ tt, tt)))));
+}
+
+raws-within : Within two raws
+raws-within = record {
+  good = two-good;
+  choices = next 10 ∷ raw (9 ∷ 9 ∷ []) ∷ next 20 ∷ raw (9 ∷ []) ∷ next 16 ∷ [];
+  first = 255;
+  small = lit< tt;
+  sent = refl;
+  gaps = (lit≤ tt, (lit≤ tt, (lit≤ tt, (lit≤ tt, tt))));
+}
+
 pub shams : Shams
 unfolding standing push placeAfter lengthHolds enter follow lostSince step
 shams = record {
@@ -69,7 +89,13 @@ shams = record {
   calls-unknown-only = refl;
   holds-across = record { within = gap-within; fails = λ d. let z : _≡_ {A = ℕ} 2 1 = ap length (d .handed-out) in omega arith };
   holds-across-only = refl;
-  reads-c = record { within = plain-within; fails = λ d. let z : _≡_ {A = ℕ} 9 16 = ap (λ (ps : List Handed). length (getD ps 0 (out 0 []) .packet)) (d .handed-out) in omega arith };
-  stamps-first = record { within = parted-within; fails = λ d. let z : _≡_ {A = ℕ} 1 2 = ap (λ (ps : List Handed). second ps .arrival) (d .handed-out) in omega arith };
-  stamps-first-only = refl;
+  reads-c = record { within = plain-within; fails = λ d. let z : _≡_ {A = ℕ} 9 16 = ap (λ (ps : List Handed). length (getD ps 0 (out 0 0 []) .packet)) (d .handed-out) in omega arith };
+  first-for-last = record { within = parted-within; fails = λ d. let z : _≡_ {A = ℕ} 1 2 = ap (λ (ps : List Handed). second ps .arrival) (d .handed-out) in omega arith };
+  first-for-last-only = refl;
+  last-for-first = record { within = parted-within; fails = λ d. let z : _≡_ {A = ℕ} 2 1 = ap (λ (ps : List Handed). second ps .first) (d .handed-out) in omega arith };
+  last-for-first-only = refl;
+  forgets-first = record { within = split-within; fails = λ d. let z : _≡_ {A = ℕ} 4 2 = ap (λ (ps : List Handed). second ps .first) (d .handed-out) in omega arith };
+  forgets-first-only = refl;
+  moves-first = record { within = raws-within; fails = λ d. let z : _≡_ {A = ℕ} 2 1 = ap (λ (ps : List Handed). getD ps 0 (out 0 0 []) .first) (d .handed-out) in omega arith };
+  moves-first-only = refl;
 }

@@ -14,7 +14,7 @@ use Rattle.delivery.specs.Expected.{arrivalOf, arrived, nowhere, expecte
 
 -- the packet p, begun in frame i, was sent in the frames from i to j
 abbrev pub one : List Fate → ℕ → List ℕ → ℕ → List Handed
-one ss i p j = when (arrived ss i j) (given (arrivalOf (getD ss j nowhere)) (heldOf p))
+one ss i p j = when (arrived ss i j) (given (arrivalOf (getD ss j nowhere)) (heldOf (arrivalOf (getD ss i nowhere)) p))
 
 -- the packet p was begun in frame i, r of it is unsent, the packets ps are not begun, and `own` are the owners of what is sent from here on
 abbrev pub walk : List Fate → ℕ → List ℕ → List ℕ → List (List ℕ) → List ℕ → List Handed

@@ -33,8 +33,8 @@ abbrev pub loss : ℕ → ℕ → LostAt
 loss a n = lostAt a (Known n)
 
 -- At the first arrival.
-abbrev pub first : ℕ → LostAt
-first a = lostAt a Unknown
+abbrev pub atFirst : ℕ → LostAt
+atFirst a = lostAt a Unknown
 
 -- An empty frame is lost inside the first packet.
 abbrev pub gap : List Fate
@@ -61,17 +61,17 @@ ends = sentBy 0 two (next 3 ∷ next 20 ∷ next 3 ∷ []) (0 ∷ 1 ∷ 2 ∷ []
 
 pub record Corners : Type 0 where
   pub gap-right : Delivered two gap (run fresh (offered gap))
-  pub gap-packets : expected two gap ≡ out 3 (packetOf 30 2) ∷ []
-  pub gap-losses : losses (run fresh (offered gap)) ≡ first 1 ∷ loss 2 1 ∷ loss 3 0 ∷ []
+  pub gap-packets : expected two gap ≡ out 2 3 (packetOf 30 2) ∷ []
+  pub gap-losses : losses (run fresh (offered gap)) ≡ atFirst 1 ∷ loss 2 1 ∷ loss 3 0 ∷ []
   pub raws-right : Delivered two raws (run fresh (offered raws))
-  pub raws-packets : expected two raws ≡ out 3 (packetOf 16 1) ∷ []
+  pub raws-packets : expected two raws ≡ out 1 3 (packetOf 16 1) ∷ []
   pub many-right : Delivered two (many 255) (run fresh (offered (many 255)))
-  pub many-packets : expected two (many 255) ≡ out 3 (packetOf 30 2) ∷ []
-  pub many-losses : losses (run fresh (offered (many 255))) ≡ first 1 ∷ loss 2 255 ∷ loss 3 0 ∷ []
+  pub many-packets : expected two (many 255) ≡ out 2 3 (packetOf 30 2) ∷ []
+  pub many-losses : losses (run fresh (offered (many 255))) ≡ atFirst 1 ∷ loss 2 255 ∷ loss 3 0 ∷ []
   pub split-right : Delivered two split (run fresh (offered split))
-  pub split-packets : expected two split ≡ out 1 (packetOf 16 1) ∷ out 5 (packetOf 30 2) ∷ []
+  pub split-packets : expected two split ≡ out 1 1 (packetOf 16 1) ∷ out 2 5 (packetOf 30 2) ∷ []
   pub ends-right : Delivered two ends (run fresh (offered ends))
   pub ends-packets : expected two ends ≡ []
   -- 255 is sharp: with 256 lost, a packet is handed out although its frames did not all arrive.
-  pub too-many : handed (run fresh (offered (many 256))) ≡ out 2 (packetOf 16 1) ∷ out 3 (packetOf 30 2) ∷ []
-  pub too-many-expected : expected two (many 256) ≡ out 3 (packetOf 30 2) ∷ []
+  pub too-many : handed (run fresh (offered (many 256))) ≡ out 1 2 (packetOf 16 1) ∷ out 2 3 (packetOf 30 2) ∷ []
+  pub too-many-expected : expected two (many 256) ≡ out 2 3 (packetOf 30 2) ∷ []

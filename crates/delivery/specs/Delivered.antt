@@ -24,7 +24,7 @@ losses (r ∷ rs) = lostAt (r .arrival) (r .lost) ∷ losses rs
 -- Demand 3's conclusion, of a channel whose sender had these packets and whose frames had these fates.
 pub record Delivered (packets : List (List ℕ)) (fates : List Fate) (reports : List Report) : Type 0 where
   -- It hands out, in the channel's order and once each, exactly the packets for which every frame from first octet to last arrived,
-  -- unchanged, with the arrival number of the frame that held the last octet.
+  -- unchanged, with the arrival numbers of the frames that held the first octet and the last.
   pub handed-out : handed reports ≡ expected packets fates
   -- At each later arrival it reports how many of the channel's frames were lost since the one before.
   pub losses-told : losses reports ≡ expectedLosses fates

@@ -35,9 +35,9 @@ pub record Reception : Type 0 where
   pub numbers : last + length (arriving t link frames) ≤ lastNumber
   pub room : Room calls
 
--- On each of the eight channels, what is read from the lent octets and lengths and from the answers is what is expected: exactly the
+-- On each of the eight channels, what is read from the lent octets and lists and from the answers is what is expected: exactly the
 -- packets for which every frame of the channel from first octet to last arrived, unchanged, in order and once each, with the arrival
--- number of the frame that held the last octet; and how many of the channel's frames were lost since the arrival before.
+-- numbers of the frames that held the first octet and the last; and how many of the channel's frames were lost since the arrival before.
 abbrev pub Demand3 : Type 0
 Demand3 = (r : Reception) (v : ℕ) (l : v < virtualChannels)
     → Delivered (r .sender .streams v l .packets) (fates v (r .last) (r .link) (r .frames)) (reportsOf v (r .calls))

@@ -10,7 +10,7 @@ use Rattle.counts.specs.declared.Loss.{Loss}
 use Rattle.counts.specs.declared.Loss.the-variants.{Unknown, Known}
 use Rattle.counts.specs.Lost.{number}
 use Rattle.frame.specs.Limits.{rawData, noneStarts}
-use Rattle.rules.specs.Channel.{Piece, heldOf, Handed, given}
+use Rattle.rules.specs.Channel.{Piece, Handed}
 use Rattle.sender.specs.Sender.{when}
 use Rattle.delivery.specs.Link.{Fate, lost, got}
 
@@ -47,14 +47,18 @@ allGot (s ∷ ss) = isGot s && allGot ss
 abbrev pub arrived : List Fate → ℕ → ℕ → Bool
 arrived ss i j = allGot (slice i (suc j) ss)
 
+-- The arrival number of the frame that carries the octet at index i of these.
+abbrev pub arrivalAt : List Fate → List ℕ → ℕ → ℕ
+arrivalAt ss owns i = arrivalOf (getD ss (getD owns i 0) nowhere)
+
 -- The packets in order, each taking the owners of its octets from the front. A packet is expected if every frame from its first octet's
--- to its last octet's arrived, under the arrival number of the last; one that was not sent to its end ends the list.
+-- to its last octet's arrived, with the arrival numbers of the first and the last; one that was not sent to its end ends the list.
 abbrev pub expectedFrom : List Fate → List (List ℕ) → List ℕ → List Handed
 expectedFrom ss [] owns = []
 expectedFrom ss (p ∷ ps) owns =
     cond (leb (length p) (length owns))
     (when (arrived ss (getD owns 0 0) (getD owns (length p - 1) 0))
-    (given (arrivalOf (getD ss (getD owns (length p - 1) 0) nowhere)) (heldOf p))
+    (record { first = arrivalAt ss owns 0; arrival = arrivalAt ss owns (length p - 1); packet = p })
     ++ expectedFrom ss ps (drop (length p) owns))
     []
 

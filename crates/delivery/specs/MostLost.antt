@@ -12,7 +12,7 @@ use Rattle.delivery.specs.Delivered.{handed, losses}
 use Rattle.delivery.specs.Run.{reportsOf}
 use Rattle.delivery.specs.Demand.{Reception}
 use Rattle.delivery.specs.Further.{masterLosses}
-use Rattle.delivery.specs.Corners.{two, loss, first, manyEmpty}
+use Rattle.delivery.specs.Corners.{two, loss, atFirst, manyEmpty}
 use Rattle.delivery.specs.Witness.{framed}
 
 -- Frames of channel 0 alone, one after another.
@@ -34,6 +34,6 @@ pub record MostLost : Type 0 where
   pub reception : Reception
   pub sent : reception .frames ≡ recording
   pub lost : reception .link ≡ losing
-  pub packets : handed (reportsOf 0 (reception .calls)) ≡ out 3 (packetOf 30 2) ∷ []
-  pub told : losses (reportsOf 0 (reception .calls)) ≡ first 1 ∷ loss 2 255 ∷ loss 3 0 ∷ []
-  pub masters : masterLosses (reception .calls) ≡ first 1 ∷ loss 2 255 ∷ loss 3 0 ∷ []
+  pub packets : handed (reportsOf 0 (reception .calls)) ≡ out 2 3 (packetOf 30 2) ∷ []
+  pub told : losses (reportsOf 0 (reception .calls)) ≡ atFirst 1 ∷ loss 2 255 ∷ loss 3 0 ∷ []
+  pub masters : masterLosses (reception .calls) ≡ atFirst 1 ∷ loss 2 255 ∷ loss 3 0 ∷ []

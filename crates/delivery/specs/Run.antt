@@ -1,11 +1,11 @@
--- 6. The session's run: its calls, and what is read from the lent octets and lengths after each.
+-- 6. The session's run: its calls, and what is read from the lent octets, lengths and first numbers after each.
 use Prim.Native.Nat.{ℕ, zero, suc}
-use mathlib.Core.List.{List, [], _∷_, _++_, map}
+use mathlib.Core.List.{List, [], _∷_, _++_}
 use mathlib.Core.Bool.{Bool, _&&_}
 use lib.ListN.{take, drop}
 use lib.Dec.{eqb}
 use Rattle.answer.specs.Told.{Told}
-use Rattle.rules.specs.Channel.{heldOf, Handed, given}
+use Rattle.rules.specs.Channel.{Handed}
 use Rattle.session.specs.declared.Session.{Session}
 use Rattle.session.specs.declared.Stepped.{Stepped}
 use Rattle.session.specs.declared.Accepted.{Accepted}
@@ -45,9 +45,15 @@ pieces zero octets lengths = []
 pieces (suc n) octets [] = []
 pieces (suc n) octets (l ∷ lengths) = take l octets ∷ pieces n (drop l octets) lengths
 
+-- Packets with their first numbers, under the arrival number a.
+abbrev pub numbered : ℕ → List (List ℕ) → List ℕ → List Handed
+numbered a [] firsts = []
+numbered a (p ∷ ps) [] = []
+numbered a (p ∷ ps) (f ∷ firsts) = record { first = f; arrival = a; packet = p } ∷ numbered a ps firsts
+
 -- The n packets that were handed out under the arrival number a.
 abbrev pub readOut : ℕ → ℕ → Lent → List Handed
-readOut a n l = map (λ (p : List ℕ). given a (heldOf p)) (pieces n (l .octets) (l .lengths))
+readOut a n l = numbered a (pieces n (l .octets) (l .lengths)) (l .firsts)
 
 abbrev pub packetsOf : Call → List Handed
 packetsOf c = readOut (answerOf c .fields .arrival) (answerOf c .fields .packets) (c .left)

@@ -5,19 +5,20 @@ use mathlib.Core.List.{List, [], _∷_, map}
 use mathlib.Core.Bool.{cond, _||_}
 use mathlib.Core.Option.{Option, none, some}
 use lib.ListN.{length, take, drop}
-use lib.Dec.{ltb}
+use lib.Dec.{ltb, eqb}
 use Rattle.octets.specs.Numbers.{at, word}
 use Rattle.counts.specs.declared.Loss.{Loss}
 use Rattle.counts.specs.declared.Loss.the-variants.{Unknown, Known}
 use Rattle.counts.specs.Lost.{lostSince, number}
+use Rattle.frame.specs.Limits.{rawData}
 use Rattle.rules.specs.Channel.{heldOf, Handed, given, Channel, fresh, answer, step, follow, afterLoss}
-use Rattle.rules.specs.Packets.{AllGood}
+use Rattle.rules.specs.Packets.{AllGood, firsts}
 use Rattle.sender.specs.Stream.{Choice, next, framesBy}
 use Rattle.delivery.specs.Link.{Fate}
 use Rattle.delivery.specs.Expected.{piece, expected, expectedLosses, AtMost, mostLost}
 use Rattle.delivery.specs.Delivered.{Report, handed, losses, Delivered}
 use Rattle.delivery.specs.Channels.{Offer, offered, runBy, run, report}
-use Rattle.delivery.specs.Corners.{sentBy, two, gap}
+use Rattle.delivery.specs.Corners.{sentBy, two, gap, split, raws}
 
 -- A recording within demand 3: packets of 16 to 251 octets, cut by some choices from some count on, and at most 255 frames lost between
 -- two arrivals.
@@ -94,32 +95,33 @@ readsC os =
     map (λ (o : Offer). record {
       arrival = o .arrival;
       lost = Known 0;
-      packets = map (λ (p : List ℕ). given (o .arrival) (heldOf p)) (cutByC 16 (drop (o .frame .pointer) (o .frame .octets)));
+      packets = map (λ (p : List ℕ). given (o .arrival) (heldOf (o .arrival) p)) (cutByC 16 (drop (o .frame .pointer) (o .frame .octets)));
     }) os
 
--- It gives a packet the arrival of its first octet: `since` is when what is held was begun.
-abbrev pub restamped : ℕ → List ℕ → List Handed → List Handed
-restamped since [] ps = ps
-restamped since (x ∷ held) [] = []
-restamped since (x ∷ held) (p ∷ ps) = given since (heldOf (p .packet)) ∷ ps
+-- It tells other arrival numbers of the packets that the rules hand out: of the frame with the first octet for the last, and the reverse.
+abbrev pub renumbering : (Handed → Handed) → List Offer → List Report
+renumbering tell os = map (λ (r : Report). record { arrival = r .arrival; lost = r .lost; packets = map tell (r .packets) }) (run fresh os)
 
-abbrev pub begunAt : ℕ → ℕ → List ℕ → List Handed → ℕ
-begunAt since a [] ps = a
-begunAt since a (x ∷ held) [] = since
-begunAt since a (x ∷ held) (p ∷ ps) = a
+abbrev pub firstForLast : List Offer → List Report
+firstForLast os = renumbering (λ (p : Handed). record { first = p .first; arrival = p .first; packet = p .packet }) os
 
-abbrev pub stampsFrom : ℕ → Channel → List Offer → List Report
-stampsFrom since c [] = []
-stampsFrom since c (o ∷ os) =
-    record {
-      arrival = o .arrival;
-      lost = step (o .arrival) c (o .frame) .lost;
-      packets = restamped since (c .held .octets) (step (o .arrival) c (o .frame) .packets);
-    }
-    ∷ stampsFrom (begunAt since (o .arrival) (c .held .octets) (step (o .arrival) c (o .frame) .packets)) (step (o .arrival) c (o .frame) .next) os
+abbrev pub lastForFirst : List Offer → List Report
+lastForFirst os = renumbering (λ (p : Handed). record { first = p .arrival; arrival = p .arrival; packet = p .packet }) os
 
-abbrev pub stampsFirst : List Offer → List Report
-stampsFirst os = stampsFrom 0 fresh os
+-- A channel with another first number beside what it holds.
+abbrev pub restarted : ℕ → Channel → Channel
+restarted first c = record { last = c .last; inStep = c .inStep; held = heldOf first (c .held .octets) }
+
+-- It forgets the first number while only part of a header is held, and takes the next frame's for it.
+abbrev pub forgetsFirst : List Offer → List Report
+forgetsFirst os = runBy (λ a c f. step a (cond (ltb (length (c .held .octets)) 6) (restarted a c) c) f) fresh os
+
+-- A raw frame moves the first number.
+abbrev pub movesFirst : List Offer → List Report
+movesFirst os = runBy (λ a c f. step a (cond (eqb (f .pointer) rawData) (restarted a c) c) f) fresh os
+
+abbrev pub lasts : List Handed → List ℕ
+lasts ps = map (λ (p : Handed). p .arrival) ps
 
 pub record Shams : Type 0 where
   -- 'It hands out .. the packets'.
@@ -137,6 +139,12 @@ pub record Shams : Type 0 where
   pub holds-across-only : losses (holdsAcross (offered gap)) ≡ expectedLosses gap
   -- 'unchanged'.
   pub reads-c : Fails readsC two plain
-  -- 'with the arrival number of the frame that held the last octet'.
-  pub stamps-first : Fails stampsFirst two parted
-  pub stamps-first-only : losses (stampsFirst (offered parted)) ≡ expectedLosses parted
+  -- 'with the arrival numbers of the frames that held the first octet and the last': one of them is right, the other is not.
+  pub first-for-last : Fails firstForLast two parted
+  pub first-for-last-only : firsts (handed (firstForLast (offered parted))) ≡ firsts (expected two parted)
+  pub last-for-first : Fails lastForFirst two parted
+  pub last-for-first-only : lasts (handed (lastForFirst (offered parted))) ≡ lasts (expected two parted)
+  pub forgets-first : Fails forgetsFirst two split
+  pub forgets-first-only : lasts (handed (forgetsFirst (offered split))) ≡ lasts (expected two split)
+  pub moves-first : Fails movesFirst two raws
+  pub moves-first-only : lasts (handed (movesFirst (offered raws))) ≡ lasts (expected two raws)

@@ -14,7 +14,7 @@ use Rattle.delivery.specs.Delivered.{handed, losses, Delivered}
 use Rattle.delivery.specs.Run.{Call, answerOf, reportsOf}
 use Rattle.delivery.specs.Demand.{Reception}
 use Rattle.delivery.specs.Further.{masterLosses}
-use Rattle.delivery.specs.Corners.{two, loss, first}
+use Rattle.delivery.specs.Corners.{two, loss, atFirst}
 
 -- "HB9EG" of SSID 1 to "HB9EG" of SSID 2.
 abbrev pub station : ℕ → Address
@@ -69,10 +69,10 @@ pub record Witness : Type 0 where
   pub reception : Reception
   pub sent : reception .frames ≡ recording
   pub lost : reception .link ≡ losing
-  pub zero-packets : handed (reportsOf 0 (reception .calls)) ≡ out 4 (packetOf 16 1) ∷ []
-  pub zero-losses : losses (reportsOf 0 (reception .calls)) ≡ first 1 ∷ loss 4 0 ∷ loss 6 1 ∷ []
-  pub five-packets : handed (reportsOf 5 (reception .calls)) ≡ out 5 (packetOf 16 1) ∷ out 7 (packetOf 30 2) ∷ []
-  pub five-losses : losses (reportsOf 5 (reception .calls)) ≡ first 2 ∷ loss 5 1 ∷ loss 7 0 ∷ []
-  pub masters : masterLosses (reception .calls) ≡ first 1 ∷ loss 2 0 ∷ loss 4 0 ∷ loss 5 2 ∷ loss 6 0 ∷ loss 7 0 ∷ []
+  pub zero-packets : handed (reportsOf 0 (reception .calls)) ≡ out 1 4 (packetOf 16 1) ∷ []
+  pub zero-losses : losses (reportsOf 0 (reception .calls)) ≡ atFirst 1 ∷ loss 4 0 ∷ loss 6 1 ∷ []
+  pub five-packets : handed (reportsOf 5 (reception .calls)) ≡ out 5 5 (packetOf 16 1) ∷ out 5 7 (packetOf 30 2) ∷ []
+  pub five-losses : losses (reportsOf 5 (reception .calls)) ≡ atFirst 2 ∷ loss 5 1 ∷ loss 7 0 ∷ []
+  pub masters : masterLosses (reception .calls) ≡ atFirst 1 ∷ loss 2 0 ∷ loss 4 0 ∷ loss 5 2 ∷ loss 6 0 ∷ loss 7 0 ∷ []
   -- No run that refuses every frame would do.
   pub refused : (calls : List Call) → AllRefused calls → Delivered fivePackets (fates 5 0 losing recording) (reportsOf 5 calls) → ⊥

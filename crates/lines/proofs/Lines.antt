@@ -103,14 +103,14 @@ module _ (out : List ℕ) (at : ℕ) {b : Bool} (e : b ≡ ltb (length out) (at 
       let room = some-room h in
       puts-laid room (resaid refl few (put-laid (omega arith) p))
 
-module _ (arrival size : ℕ) {at r : ℕ} {out out′ : List ℕ} {read : PacketRead} where
-  pub taken-line : {p : Packet} → read ≡ variants.Packet p → Laid longestLine (packetLine arrival p size) out at out′ r
-      → Laid longestLine (packetText arrival size (told read)) out at out′ r
+module _ (first arrival size : ℕ) {at r : ℕ} {out out′ : List ℕ} {read : PacketRead} where
+  pub taken-line : {p : Packet} → read ≡ variants.Packet p → Laid longestLine (packetLine first arrival p size) out at out′ r
+      → Laid longestLine (packetText first arrival size (told read)) out at out′ r
   unfolding pick
   taken-line e l = rw e l
 
-  pub turned-away-line : {n : ℕ} → read ≡ variants.Refused n → Laid longestLine (turnedAwayLine arrival n size) out at out′ r
-      → Laid longestLine (packetText arrival size (told read)) out at out′ r
+  pub turned-away-line : {n : ℕ} → read ≡ variants.Refused n → Laid longestLine (turnedAwayLine first arrival n size) out at out′ r
+      → Laid longestLine (packetText first arrival size (told read)) out at out′ r
   unfolding pick
   turned-away-line e l = rw e l
 

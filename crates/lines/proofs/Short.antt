@@ -30,7 +30,7 @@ lines-are-short = record {
   answers = λ arrival t. either-short (t .accepted) _ _
       (accepted-short arrival (t .fields))
       (omega (arith, spaced-short (arrival ∷ t .refusal ∷ []) (45 ∷ 32 ∷ 45 ∷ 32 ∷ 45 ∷ 32 ∷ 45 ∷ 10 ∷ [])));
-  packets = λ arrival size t. either-short (t .accepted) _ _
-      (omega (arith, numbers-short (arrival ∷ t .fields .apid ∷ t .fields .sequence .0 ∷ t .fields .service ∷ t .fields .subtype ∷ []) size))
-      (omega (arith, numbers-short (arrival ∷ t .refusal ∷ []) size));
+  packets = λ first arrival size t. either-short (t .accepted) _ _
+      (omega (arith, numbers-short (first ∷ arrival ∷ t .fields .apid ∷ t .fields .sequence .0 ∷ t .fields .service ∷ t .fields .subtype ∷ []) size))
+      (omega (arith, numbers-short (first ∷ arrival ∷ t .refusal ∷ []) size));
 }

@@ -33,23 +33,24 @@ acceptedLine arrival a =
 unfoldable pub refusedLine : ℕ → ℕ → List ℕ
 refusedLine arrival refusal = line (decimal arrival) (decimal refusal ∷ dash ∷ dash ∷ dash ∷ dash ∷ [])
 
--- P, arrival, APID, sequence count, type, subtype, length.
-unfoldable pub packetLine : ℕ → Packet → ℕ → List ℕ
-packetLine arrival p size =
+-- P, the arrival numbers of the frames with its first octet and its last, APID, sequence count, type, subtype, length.
+unfoldable pub packetLine : ℕ → ℕ → Packet → ℕ → List ℕ
+packetLine first arrival p size =
     line (80 ∷ [])
-    (decimal arrival ∷ decimal (p .apid) ∷ decimal (p .sequence .0) ∷ decimal (p .service) ∷ decimal (p .subtype) ∷ decimal size ∷ [])
+    (decimal first ∷ decimal arrival ∷ decimal (p .apid) ∷ decimal (p .sequence .0) ∷ decimal (p .service) ∷ decimal (p .subtype) ∷ decimal size ∷ [])
 
--- Q, arrival, refusal, length.
-unfoldable pub turnedAwayLine : ℕ → ℕ → ℕ → List ℕ
-turnedAwayLine arrival refusal size = line (81 ∷ []) (decimal arrival ∷ decimal refusal ∷ decimal size ∷ [])
+-- Q, the same two arrival numbers, refusal, length.
+unfoldable pub turnedAwayLine : ℕ → ℕ → ℕ → ℕ → List ℕ
+turnedAwayLine first arrival refusal size = line (81 ∷ []) (decimal first ∷ decimal arrival ∷ decimal refusal ∷ decimal size ∷ [])
 
 -- A frame's line: what the session told of it.
 abbrev pub answerText : ℕ → Told Accepted → List ℕ
 answerText arrival t = pick (t .accepted) (acceptedLine arrival (t .fields)) (refusedLine arrival (t .refusal))
 
 -- A packet's line: what the packet reader told of it.
-abbrev pub packetText : ℕ → ℕ → Told Packet → List ℕ
-packetText arrival size t = pick (t .accepted) (packetLine arrival (t .fields) size) (turnedAwayLine arrival (t .refusal) size)
+abbrev pub packetText : ℕ → ℕ → ℕ → Told Packet → List ℕ
+packetText first arrival size t =
+    pick (t .accepted) (packetLine first arrival (t .fields) size) (turnedAwayLine first arrival (t .refusal) size)
 
 -- The most octets that a line takes.
 abbrev pub longestLine : ℕ
@@ -58,7 +59,7 @@ longestLine = 80
 -- No line of a frame or a packet is longer.
 pub record LinesAreShort : Type 0 where
   pub answers : (arrival : ℕ) (t : Told Accepted) → length (answerText arrival t) ≤ longestLine
-  pub packets : (arrival size : ℕ) (t : Told Packet) → length (packetText arrival size t) ≤ longestLine
+  pub packets : (first arrival size : ℕ) (t : Told Packet) → length (packetText first arrival size t) ≤ longestLine
 
 -- "arrival answer channel lost master packets"
 abbrev pub header : List ℕ

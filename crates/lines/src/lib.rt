@@ -53,16 +53,24 @@ pub fn answer_line(out: &mut [u8], at: usize, arrival: u32, answer: StepAnswer) 
     }
 }
 
-// The line of a packet of that size that the packet reader answered so.
-pub fn packet_line(out: &mut [u8], at: usize, arrival: u32, size: u16, read: PacketRead) -> usize
-    ensures { λ r. ⌜ Puts longestLine (packetText arrival size (toldPacket read)) (now (out .entry)) at (now (out .exit)) r ⌝ }
+// The line of a packet of that size, with the arrival numbers of the frames with its first octet and its last, that the packet reader
+// answered so.
+pub fn packet_line(
+    out: &mut [u8],
+    at: usize,
+    first: u32,
+    arrival: u32,
+    size: u16,
+    read: PacketRead,
+) -> usize
+    ensures { λ r. ⌜ Puts longestLine (packetText first arrival size (toldPacket read)) (now (out .entry)) at (now (out .exit)) r ⌝ }
 {
     if no_room(out, at) {
         return at;
     }
     match read {
-        PacketRead::Packet(p) => taken(out, at, arrival, p, size),
-        PacketRead::Refused(refusal) => turned_away(out, at, arrival, refusal, size),
+        PacketRead::Packet(p) => taken(out, at, first, arrival, p, size),
+        PacketRead::Refused(refusal) => turned_away(out, at, first, arrival, refusal, size),
     }
 }
 
@@ -129,12 +137,13 @@ fn refused(out: &mut [u8], at: usize, arrival: u32, refusal: u16) -> usize
 }
 
 // The line of a packet that the packet reader accepts.
-fn taken(out: &mut [u8], at: usize, arrival: u32, p: Packet, size: u16) -> usize
+fn taken(out: &mut [u8], at: usize, first: u32, arrival: u32, p: Packet, size: u16) -> usize
     requires { ⌜ at + longestLine ≤ length (now out) ⌝ }
-    ensures { λ r. ⌜ Laid longestLine (packetLine arrival p size) (now (out .entry)) at (now (out .exit)) r ⌝ }
+    ensures { λ r. ⌜ Laid longestLine (packetLine first arrival p size) (now (out .entry)) at (now (out .exit)) r ⌝ }
 {
     let sequence = p.sequence;
     let list = [
+        first,
         arrival,
         p.apid as u32,
         sequence.0 as u32,
@@ -145,11 +154,18 @@ fn taken(out: &mut [u8], at: usize, arrival: u32, p: Packet, size: u16) -> usize
 }
 
 // The line of a packet that the packet reader turns away.
-fn turned_away(out: &mut [u8], at: usize, arrival: u32, refusal: u16, size: u16) -> usize
+fn turned_away(
+    out: &mut [u8],
+    at: usize,
+    first: u32,
+    arrival: u32,
+    refusal: u16,
+    size: u16,
+) -> usize
     requires { ⌜ at + longestLine ≤ length (now out) ⌝ }
-    ensures { λ r. ⌜ Laid longestLine (turnedAwayLine arrival refusal size) (now (out .entry)) at (now (out .exit)) r ⌝ }
+    ensures { λ r. ⌜ Laid longestLine (turnedAwayLine first arrival refusal size) (now (out .entry)) at (now (out .exit)) r ⌝ }
 {
-    let list = [arrival, refusal as u32];
+    let list = [first, arrival, refusal as u32];
     lettered(out, at, b'Q', &list, size)
 }
 

@@ -13,7 +13,9 @@ use Rattle.octets.specs.Parts.{written}
 use Rattle.answer.specs.Told.{Told}
 use Rattle.answer.specs.Refusals as no
 use Rattle.frame.specs.Frame.{readFrame}
-use Rattle.rules.specs.Packets.{bare, joined}
+use Rattle.rules.specs.Channel.{Handed}
+use Rattle.rules.specs.Packets.{bare, joined, firsts}
+use Rattle.rules.specs.Bounds.{Under}
 use Rattle.session.specs.Channel.{unsound}
 use Rattle.session.specs.Lent.{Lent, lent, scant, Enough}
 use Rattle.session.specs.Step.{Outcome, Steps, told, outcome, barred, refused, counted, heeded}
@@ -37,33 +39,42 @@ by-gate s frame l = refl
 
 -- enough was lent
 open-gate : (l : Lent) → Enough l → scant l ≡ false
-open-gate l e = simp (le-ltb _ _ (e .octets), le-ltb _ _ (e .lengths))
+open-gate l e = simp (le-ltb _ _ (e .octets), le-ltb _ _ (e .lengths), le-ltb _ _ (e .firsts))
 
 roomy-enough : Enough roomy
 unfolding roomy
-roomy-enough = record { octets = omega (arith, length-replicate {A = ℕ} 501 0); lengths = omega (arith, length-replicate {A = ℕ} 16 0) }
+roomy-enough =
+    let entries = length-replicate {A = ℕ} 16 0 in
+    record { octets = omega (arith, length-replicate {A = ℕ} 501 0); lengths = omega arith; firsts = omega arith }
 
 -- whatever is lent beyond that, the outcome is the same
 pub same-outcome : (s : Session) (frame : List ℕ) (l : Lent) → Enough l → outcome s frame l ≡ offered s frame
 same-outcome s frame l e = by-gate s frame l ∙ ap (gate s frame) (open-gate l e ∙ sym (open-gate roomy roomy-enough)) ∙ sym (by-gate s frame roomy)
 
+abbrev numbered : ℕ → ℕ → List ℕ → Handed
+numbered first a p = record { first = first; arrival = a; packet = p }
+
 -- packets that stand end to end, cut by their lengths
-cut-joined : (ps : List (List ℕ)) (rest : List ℕ) → cut (joined ps ++ rest) (map length ps) ≡ ps
-cut-joined [] rest = refl
-cut-joined (p ∷ ps) rest =
-    let e : (p ++ joined ps) ++ rest ≡ p ++ (joined ps ++ rest) = append-assoc p (joined ps) rest in
-    ap (λ (x : List ℕ). take (length p) x ∷ cut (drop (length p) x) (map length ps)) e
-    ∙ ap (λ (x : List ℕ). x ∷ cut (drop (length p) (p ++ (joined ps ++ rest))) (map length ps)) (take-at p (joined ps ++ rest) (length p) refl)
-    ∙ ap (λ (x : List ℕ). p ∷ cut x (map length ps)) (drop-at p (joined ps ++ rest) (length p) refl)
-    ∙ ap (λ (x : List (List ℕ)). p ∷ x) (cut-joined ps rest)
+cut-joined : (a : ℕ) (ps : List Handed) (rest xs : List ℕ) → Under a ps → cut a (joined (bare ps) ++ rest) (map length (bare ps)) (firsts ps ++ xs) ≡ ps
+cut-joined a [] rest xs u = refl
+cut-joined a (p ∷ ps) rest xs u =
+    let s : List ℕ = joined (bare ps) ++ rest in
+    let e : (p .packet ++ joined (bare ps)) ++ rest ≡ p .packet ++ s = append-assoc (p .packet) (joined (bare ps)) rest in
+    let front : take (length (p .packet)) ((p .packet ++ joined (bare ps)) ++ rest) ≡ p .packet =
+    ap (take (length (p .packet))) e ∙ take-at (p .packet) s (length (p .packet)) refl in
+    let back : drop (length (p .packet)) ((p .packet ++ joined (bare ps)) ++ rest) ≡ s =
+    ap (drop (length (p .packet))) e ∙ drop-at (p .packet) s (length (p .packet)) refl in
+    rw (front, back)
+    (ap (λ (n : ℕ). numbered (p .first) n (p .packet) ∷ cut a s (map length (bare ps)) (firsts ps ++ xs)) (sym (u .0))
+    ∙ ap (λ (qs : List Handed). p ∷ qs) (cut-joined a ps rest xs (u .1)))
 
 total-joined : (ps : List (List ℕ)) → total (map length ps) ≡ length (joined ps)
 total-joined [] = refl
 total-joined (p ∷ ps) = simp length-append (omega (arith, total-joined ps))
 
--- What a step left in the lent octets and lengths, of which there were 501 and 16.
-module _ (s : Session) (frame : List ℕ) {octets lengths octets′ lengths′ : List ℕ} {r : Stepped} (o501 : length octets ≡ 501) (o16 : length lengths ≡ 16)
-    (g : Steps s frame (lent octets lengths) r (lent octets′ lengths′)) where
+-- What a step left in the lent octets, lengths and first numbers, of which there were 501, 16 and 16.
+module _ (s : Session) (frame : List ℕ) {octets lengths numbers octets′ lengths′ numbers′ : List ℕ} {r : Stepped} (o501 : length octets ≡ 501) (o16 : length lengths ≡ 16)
+    (n16 : length numbers ≡ 16) (g : Steps s frame (lent octets lengths numbers) r (lent octets′ lengths′ numbers′)) where
   abbrev o : Outcome
   o = offered s frame
 
@@ -73,8 +84,9 @@ module _ (s : Session) (frame : List ℕ) {octets lengths octets′ lengths′ :
   few : Few o
   few = step-few s frame roomy
 
-  same : outcome s frame (lent octets lengths) ≡ o
-  same = same-outcome s frame (lent octets lengths) (record { octets = omega (arith, o501); lengths = omega (arith, o16) })
+  same : outcome s frame (lent octets lengths numbers) ≡ o
+  same =
+      same-outcome s frame (lent octets lengths numbers) (record { octets = omega (arith, o501); lengths = omega (arith, o16); firsts = omega (arith, n16) })
 
   answers : told (r .answer) ≡ o .answer
   answers = g .answers ∙ ap (λ (x : Outcome). x .answer) same
@@ -87,6 +99,9 @@ module _ (s : Session) (frame : List ℕ) {octets lengths octets′ lengths′ :
 
   lengths-are : lengths′ ≡ written (map length ps) lengths
   lengths-are = ap (λ (l : Lent). l .lengths) (g .leaves) ∙ ap (λ (x : Outcome). written (map length (bare (x .packets))) lengths) same
+
+  numbers-are : numbers′ ≡ written (firsts (o .packets)) numbers
+  numbers-are = ap (λ (l : Lent). l .firsts) (g .leaves) ∙ ap (λ (x : Outcome). written (firsts (x .packets)) numbers) same
 
   packets-are : told (r .answer) .fields .packets ≡ length (o .packets)
   packets-are = ap (λ (t : Told Accepted). t .fields .packets) answers ∙ few .count
@@ -103,13 +118,17 @@ module _ (s : Session) (frame : List ℕ) {octets lengths octets′ lengths′ :
   packets-there =
       omega (arith, ap total front, total-joined ps, ap length octets-are, length-append (joined ps) (drop (length (joined ps)) octets))
 
-  packets-cut : cut octets′ (take (told (r .answer) .fields .packets) lengths′) ≡ ps
+  packets-cut : cut (o .session .arrival) octets′ (take (told (r .answer) .fields .packets) lengths′) numbers′ ≡ o .packets
   packets-cut =
-      ap (cut octets′) front ∙ ap (λ (x : List ℕ). cut x (map length ps)) octets-are ∙ cut-joined ps (drop (length (joined ps)) octets)
+      let a : ℕ = o .session .arrival in
+      ap (λ (x : List ℕ). cut a octets′ x numbers′) front
+      ∙ ap (λ (x : List ℕ). cut a x (map length ps) numbers′) octets-are
+      ∙ ap (cut a (written (joined ps) octets) (map length ps)) numbers-are
+      ∙ cut-joined a (o .packets) (drop (length (joined ps)) octets) (drop (length (firsts (o .packets))) numbers) (few .used)
 
-  pub frame-text : answered (r .session .arrival) (told (r .answer)) octets′ lengths′ ≡ outcomeText (offered s frame)
+  pub frame-text : answered (r .session .arrival) (told (r .answer)) octets′ lengths′ numbers′ ≡ outcomeText (offered s frame)
   unfolding outcomeText
   frame-text =
-      ap (λ (x : List (List ℕ)). answerText (r .session .arrival) (told (r .answer)) ++ packetsText (r .session .arrival) x) packets-cut
-      ∙ ap (λ (t : Told Accepted). answerText (r .session .arrival) t ++ packetsText (r .session .arrival) ps) answers
-      ∙ ap (λ (z : Session). answerText (z .arrival) (o .answer) ++ packetsText (z .arrival) ps) stepped-session
+      ap (λ (z : Session). answered (z .arrival) (told (r .answer)) octets′ lengths′ numbers′) stepped-session
+      ∙ ap (λ (x : List Handed). answerText (o .session .arrival) (told (r .answer)) ++ packetsText x) packets-cut
+      ∙ ap (λ (t : Told Accepted). answerText (o .session .arrival) t ++ packetsText (o .packets)) answers

@@ -6,11 +6,11 @@ use mathlib.Core.Bool.{Bool, true, false}
 use native.Mathlib.Omega.{arith}
 use native.Mathlib.Nat.{sub-zero}
 use lib.Dec.{ltb}
-use lib.ListN.{length, take, drop, length-append, length-drop}
+use lib.ListN.{length, take, drop, length-append, length-drop, length-map}
 use lib.Seq.{drop-drop, take-at}
 use borrow.Author.Tests.{ltb-true, ltb-false}
 use Rattle.octets.specs.Pick.{pick}
-use Rattle.rules.specs.Packets.{bare}
+use Rattle.rules.specs.Channel.{Handed}
 use Rattle.packet.specs.Packet.{readPacket}
 use Rattle.session.specs.declared.Session.{Session}
 use Rattle.session.proofs.Few.{step-few}
@@ -32,10 +32,10 @@ use Rattle.listing.specs.declared.Stop.the-variants.{Missing, Full, Over
 use Rattle.listing.proofs.Parts.{Brings, known, brings-header, brings-nothing, brings-frame, brings-bad}
 
 -- a frame's lines have room
-packets-short : (arrival : ℕ) (ps : List (List ℕ)) → length (packetsText arrival ps) ≤ longestLine * length ps
-packets-short arrival [] = omega arith
-packets-short arrival (p ∷ ps) =
-    simp length-append (omega (arith, lines-are-short .packets arrival (length p) (readPacket p), packets-short arrival ps))
+packets-short : (ps : List Handed) → length (packetsText ps) ≤ longestLine * length ps
+packets-short [] = omega arith
+packets-short (p ∷ ps) =
+    simp length-append (omega (arith, lines-are-short .packets (p .first) (p .arrival) (length (p .packet)) (readPacket (p .packet)), packets-short ps))
 
 pub outcome-short : (s : Session) (frame : List ℕ) → length (outcomeText (offered s frame)) ≤ room
 unfolding outcomeText
@@ -43,7 +43,7 @@ outcome-short s frame =
     let o = offered s frame in
     let few = step-few s frame roomy in
     simp length-append
-    (omega (arith, lines-are-short .answers (o .session .arrival) (o .answer), packets-short (o .session .arrival) (bare (o .packets)), few .packets))
+    (omega (arith, lines-are-short .answers (o .session .arrival) (o .answer), packets-short (o .packets), few .packets, length-map (o .packets) (λ (p : Handed). p .packet)))
 
 -- The same of a call that was not yet told as octets left.
 record Parted (l : Lister) (w : List ℕ) (left : ℕ) (n : Next) : Type 0 where

@@ -6,6 +6,7 @@ use lib.ListN.{take, drop}
 use lib.Dec.{eqb}
 use Rattle.octets.specs.Pick.{pick}
 use Rattle.answer.specs.Told.{Told}
+use Rattle.rules.specs.Channel.{Handed}
 use Rattle.session.specs.declared.Accepted.{Accepted}
 use Rattle.recording.specs.Pieces.{found}
 use Rattle.recording.specs.Reader.{stateOf}
@@ -37,14 +38,17 @@ atEnd reader.Count = badRecording
 atEnd (reader.Frames n) = pick (eqb n 0) [] badRecording
 atEnd reader.Bad = []
 
--- Octets cut into parts of these lengths.
-abbrev pub cut : List ℕ → List ℕ → List (List ℕ)
-cut octets [] = []
-cut octets (n ∷ ns) = take n octets ∷ cut (drop n octets) ns
+-- Octets cut into packets of these lengths, with these first numbers, handed out under the arrival number a.
+abbrev pub cut : ℕ → List ℕ → List ℕ → List ℕ → List Handed
+cut a octets [] firsts = []
+cut a octets (n ∷ ns) [] = []
+cut a octets (n ∷ ns) (first ∷ firsts) = record { first = first; arrival = a; packet = take n octets } ∷ cut a (drop n octets) ns firsts
 
--- The lines of a frame that was answered so, its packets being at the start of lent octets and their lengths at that of a lent list.
-abbrev pub answered : ℕ → Told Accepted → List ℕ → List ℕ → List ℕ
-answered arrival t octets lengths = answerText arrival t ++ packetsText arrival (cut octets (take (t .fields .packets) lengths))
+-- The lines of a frame that was answered so, its packets being at the start of lent octets, their lengths and first numbers at that of
+-- lent lists.
+abbrev pub answered : ℕ → Told Accepted → List ℕ → List ℕ → List ℕ → List ℕ
+answered arrival t octets lengths firsts =
+    answerText arrival t ++ packetsText (cut arrival octets (take (t .fields .packets) lengths) firsts)
 
 -- The octets that packets of these lengths take.
 abbrev pub total : List ℕ → ℕ

@@ -7,7 +7,7 @@ use lib.Dec.{eqb}
 use Rattle.octets.specs.Pick.{pick}
 use Rattle.packet.specs.Packet.{readPacket}
 use Rattle.rules.specs.Limits.{mostPackets, mostOctets}
-use Rattle.rules.specs.Packets.{bare}
+use Rattle.rules.specs.Channel.{Handed}
 use Rattle.session.specs.Open.{opening}
 use Rattle.session.specs.Lent.{Lent, lent}
 use Rattle.session.specs.Step.{Outcome, outcome}
@@ -16,13 +16,13 @@ use Rattle.recording.specs.Pieces.{State, settings, count, frames, bad, Found, 
 use Rattle.lines.specs.Text.{answerText, packetText, header, badRecording}
 
 -- A line for each packet.
-abbrev pub packetsText : ℕ → List (List ℕ) → List ℕ
-packetsText arrival [] = []
-packetsText arrival (p ∷ ps) = packetText arrival (length p) (readPacket p) ++ packetsText arrival ps
+abbrev pub packetsText : List Handed → List ℕ
+packetsText [] = []
+packetsText (p ∷ ps) = packetText (p .first) (p .arrival) (length (p .packet)) (readPacket (p .packet)) ++ packetsText ps
 
--- What is lent to each step: 501 octets and 16 lengths.
+-- What is lent to each step: 501 octets, 16 lengths and 16 first numbers.
 unfoldable pub roomy : Lent
-roomy = lent (replicate mostOctets 0) (replicate mostPackets 0)
+roomy = lent (replicate mostOctets 0) (replicate mostPackets 0) (replicate mostPackets 0)
 
 -- What a session makes of a frame.
 abbrev pub offered : Session → List ℕ → Outcome
@@ -30,7 +30,7 @@ offered s frame = outcome s frame roomy
 
 -- A frame's line and those of the packets that it completes.
 unfoldable pub outcomeText : Outcome → List ℕ
-outcomeText o = answerText (o .session .arrival) (o .answer) ++ packetsText (o .session .arrival) (bare (o .packets))
+outcomeText o = answerText (o .session .arrival) (o .answer) ++ packetsText (o .packets)
 
 -- The lines of frames that are offered to a session one after another.
 abbrev pub framesText : Session → List (List ℕ) → List ℕ

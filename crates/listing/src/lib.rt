@@ -78,6 +78,7 @@ impl Lister {
     {
         let mut octets = [0u8; Session::OCTETS];
         let mut lengths = [0u16; Session::LENGTHS];
+        let mut firsts = [0u32; Session::FIRSTS];
         let mut reader = self.reader;
         let mut session = self.session;
         let mut at = 0;
@@ -113,12 +114,25 @@ impl Lister {
                     continue;
                 }
                 Taken::Here(from, to) => {
-                    let first = at + from;
-                    let last = at + to;
-                    let stepped = session.step(&window[first..last], &mut octets, &mut lengths);
+                    let start = at + from;
+                    let end = at + to;
+                    let stepped = session.step(
+                        &window[start..end],
+                        &mut octets,
+                        &mut lengths,
+                        &mut firsts,
+                    );
                     session = stepped.session;
                     let answer = stepped.answer;
-                    size = frame_lines(out, size, session.arrival, answer, &octets, &lengths);
+                    size = frame_lines(
+                        out,
+                        size,
+                        session.arrival,
+                        answer,
+                        &octets,
+                        &lengths,
+                        &firsts,
+                    );
                     at = behind;
                     reader = scanned.reader;
                     continue;
@@ -155,23 +169,34 @@ fn frame_lines(
     answer: StepAnswer,
     octets: &[u8],
     lengths: &[u16],
+    firsts: &[u32],
 ) -> usize
     requires { ⌜ used + room ≤ length (now out) ⌝ }
     requires { ⌜ told answer .fields .packets ≤ 16 ⌝ }
-    requires { ⌜ length (now lengths) ≡ 16 ⌝ }
+    requires { ⌜ (length (now lengths) ≡ 16) × (length (now firsts) ≡ 16) ⌝ }
     requires { ⌜ total (take (told answer .fields .packets) (now lengths)) ≤ length (now octets) ⌝ }
-    ensures { λ r. ⌜ Laid room (answered arrival (told answer) (now (octets .entry)) (now (lengths .entry))) (now (out .entry)) used (now (out .exit)) r ⌝ }
+    ensures { λ r. ⌜ Laid room
+        (answered arrival (told answer) (now (octets .entry)) (now (lengths .entry)) (now (firsts .entry)))
+        (now (out .entry)) used (now (out .exit)) r ⌝ }
 {
     let next = lines::answer_line(out, used, arrival, answer);
     match answer {
         StepAnswer::Accepted(a) => {
-            packet_lines(out, next, arrival, octets::wide(a.packets), octets, lengths)
+            packet_lines(
+                out,
+                next,
+                arrival,
+                octets::wide(a.packets),
+                octets,
+                lengths,
+                firsts,
+            )
         }
         StepAnswer::Refused(_) => next,
     }
 }
 
-// The lines of the packets that stand end to end at the start of octets.
+// The lines of the packets that stand end to end at the start of octets, handed out under that arrival number.
 fn packet_lines(
     out: &mut [u8],
     used: usize,
@@ -179,20 +204,24 @@ fn packet_lines(
     packets: usize,
     octets: &[u8],
     lengths: &[u16],
+    firsts: &[u32],
 ) -> usize
     requires { ⌜ used + longestLine * packets ≤ length (now out) ⌝ }
     requires { ⌜ packets ≤ 16 ⌝ }
-    requires { ⌜ length (now lengths) ≡ 16 ⌝ }
+    requires { ⌜ (length (now lengths) ≡ 16) × (length (now firsts) ≡ 16) ⌝ }
     requires { ⌜ total (take packets (now lengths)) ≤ length (now octets) ⌝ }
-    ensures { λ r. ⌜ Laid (longestLine * packets) (packetsText arrival (cut (now (octets .entry)) (take packets (now (lengths .entry))))) (now (out .entry)) used (now (out .exit)) r ⌝ }
+    ensures { λ r. ⌜ Laid (longestLine * packets)
+        (packetsText (cut arrival (now (octets .entry)) (take packets (now (lengths .entry))) (now (firsts .entry))))
+        (now (out .entry)) used (now (out .exit)) r ⌝ }
 {
     let mut next = used;
     let mut from = 0;
     let mut i = 0;
     while i < packets {
         let size = lengths[i];
+        let first = firsts[i];
         let read = Packet::read(octets::part(octets, from, size as usize));
-        next = lines::packet_line(out, next, arrival, size, read);
+        next = lines::packet_line(out, next, first, arrival, size, read);
         from += size as usize;
         i += 1;
     }

@@ -25,6 +25,7 @@ fn good() {
     listed(b"every-number");
     listed(b"long");
     listed(b"second-channel");
+    listed(b"first-and-last");
 }
 
 // The recordings that are bad.

@@ -96,3 +96,5 @@ pub const CHANNEL_HEARD: u8 = 17;
 pub const INSTEP: u8 = 18;
 
 pub const HOLDS: u8 = 19;
+
+pub const BEGUN: u8 = 20;

@@ -144,13 +144,13 @@ push-room a k m true h ps x r = go (standing (h .octets ++ x ∷ [])) refl
     len : length (h .octets ++ x ∷ []) ≡ length (h .octets) + 1
     len = length-append (h .octets) (x ∷ [])
 
-    go : (st : Standing) → standing (h .octets ++ x ∷ []) ≡ st → Room k (suc m) (settle a st (grown h x) ps)
+    go : (st : Standing) → standing (h .octets ++ x ∷ []) ≡ st → Room k (suc m) (settle a st (grown a h x) ps)
     go unfinished e = record { sound = e; good = r .good; octets = omega (arith, len, r .octets); few = few-more m (bare ps) (h .octets) x (r .few) }
     go wrong e = record { sound = refl; good = r .good; octets = omega (arith, r .octets); few = few-less m (bare ps) (h .octets) (r .few) }
     go whole e =
         let q : List ℕ = h .octets ++ x ∷ [] in
         let g : Good q = whole-good (h .octets) x (r .sound) e in
-        let all : bare (ps ++ given a (grown h x) ∷ []) ≡ bare ps ++ q ∷ [] = bare-append ps (given a (grown h x) ∷ []) in
+        let all : bare (ps ++ given a (grown a h x) ∷ []) ≡ bare ps ++ q ∷ [] = bare-append ps (given a (grown a h x) ∷ []) in
         record {
           sound = empty-unfinished;
           good = rw all (good-append (bare ps) q (r .good) g);

@@ -1,14 +1,14 @@
 -- Rule 5 a packet at a time is rule 5 an octet at a time.
-use mathlib.Core.Path.{_≡_, refl, sym, ap, _∙_}
+use mathlib.Core.Path.{_≡_, refl, sym, ap, _∙_, subst}
 use mathlib.Core.List.{List, [], _∷_, _++_, append-assoc, append-nil}
 use mathlib.Core.Bool.{Bool, true, false, true≢false, false≢true}
-use Prim.Native.Nat.{ℕ, _+_, _≤_}
+use Prim.Native.Nat.{ℕ, zero, suc, _+_, _≤_}
 use native.Mathlib.Omega.{arith}
 use lib.ListN.{length, take, drop, length-append, take-append-drop}
 use lib.Seq.{length-take-le}
-use Rattle.rules.specs.Channel.{Held, nothing, grown, Handed, given, Standing, unfinished, whole, wrong, standing, lengthIn, Work, outOfStep, holding, settle, push, feed}
-use Rattle.rules.specs.Packets.{Good, bare}
-use Rattle.rules.specs.Cutting.{Cut, cutBy, cutOf, behind, CutsOn, CutsUnfinished, CutsWrong, CutsWhole}
+use Rattle.rules.specs.Channel.{Held, heldOf, nothing, begunIn, grown, cleared, Handed, given, Standing, unfinished, whole, wrong, standing, lengthIn, Work, outOfStep, holding, settle, push, feed}
+use Rattle.rules.specs.Packets.{Good, bare, firsts}
+use Rattle.rules.specs.Cutting.{Cut, cutBy, cutOf, behind, firstsOf, firstBehind, FirstsOn, CutsOn, CutsUnfinished, CutsWrong, CutsWhole}
 use Rattle.rules.proofs.Standing.{View, short, more, done, bad, view, not-whole, not-wrong, not-both, length-said, standing-whole, standing-unfinished, empty-unfinished}
 use Rattle.rules.proofs.Bounds.{bare-append}
 
@@ -26,8 +26,8 @@ pushed : (a b : ℕ) (s t : Bool) (h k : Held) (ps rs : List Handed) (qs : List 
 unfolding push
 pushed a b false false h k ps rs qs x i e p = rw (e, p)
 pushed a b true true h k ps rs qs x i e p =
-    ap (λ (l : List ℕ). cutBy (settle a (standing (l ++ x ∷ [])) (grown h x) ps)) e
-    ∙ settled a b (standing (k .octets ++ x ∷ [])) (grown h x) (grown k x) ps rs qs (rw e) p
+    ap (λ (l : List ℕ). cutBy (settle a (standing (l ++ x ∷ [])) (grown a h x) ps)) e
+    ∙ settled a b (standing (k .octets ++ x ∷ [])) (grown a h x) (grown b k x) ps rs qs (rw e) p
 pushed a b true false h k ps rs qs x i e p = absurd (true≢false i)
 pushed a b false true h k ps rs qs x i e p = absurd (false≢true i)
 
@@ -51,11 +51,11 @@ feed-out a ps (x ∷ xs) = feed-out a ps xs
 -- ---- one octet more
 
 module _ (a : ℕ) (h : Held) (ps : List Handed) (x : ℕ) where
-  push-on : standing (h .octets ++ x ∷ []) ≡ unfinished → push a (holding h ps) x ≡ holding (grown h x) ps
+  push-on : standing (h .octets ++ x ∷ []) ≡ unfinished → push a (holding h ps) x ≡ holding (grown a h x) ps
   unfolding push
   push-on e = rw e
 
-  push-done : standing (h .octets ++ x ∷ []) ≡ whole → push a (holding h ps) x ≡ holding nothing (ps ++ given a (grown h x) ∷ [])
+  push-done : standing (h .octets ++ x ∷ []) ≡ whole → push a (holding h ps) x ≡ holding nothing (ps ++ given a (grown a h x) ∷ [])
   unfolding push
   push-done e = rw e
 
@@ -123,13 +123,13 @@ feed-grow a h (x ∷ r) ps u =
     let e : (h .octets ++ x ∷ []) ++ r ≡ h .octets ++ x ∷ r = append-assoc (h .octets) (x ∷ []) r in
     let v : standing ((h .octets ++ x ∷ []) ++ r) ≡ unfinished = rw e u in
     ap (λ (w : Work). cutBy (feed a w r)) (push-on a h ps x (unfinished-front (h .octets ++ x ∷ []) r v))
-    ∙ feed-grow a (grown h x) r ps v
+    ∙ feed-grow a (grown a h x) r ps v
     ∙ rw e
 
 -- a wrong length drops the rest
 wrong-case : (a : ℕ) (h : Held) (x : ℕ) (r : List ℕ) (ps : List Handed) → standing ((h .octets ++ x ∷ []) ++ r) ≡ wrong
     → (st : Standing) → standing (h .octets ++ x ∷ []) ≡ st
-    → (standing (h .octets ++ x ∷ []) ≡ unfinished → feed a (holding (grown h x) ps) r ≡ outOfStep ps)
+    → (standing (h .octets ++ x ∷ []) ≡ unfinished → feed a (holding (grown a h x) ps) r ≡ outOfStep ps)
     → feed a (push a (holding h ps) x) r ≡ outOfStep ps
 wrong-case a h x r ps v unfinished q rec = rw (push-on a h ps x q) (rec q)
 wrong-case a h x r ps v wrong q rec = rw (push-bad a h ps x q) (feed-out a ps r)
@@ -140,20 +140,20 @@ feed-wrong : (a : ℕ) (h : Held) (r : List ℕ) (ps : List Handed) → standing
 feed-wrong a h [] ps u w = not-wrong u (rw (← append-nil (h .octets)) w)
 feed-wrong a h (x ∷ r) ps u w =
     let v : standing ((h .octets ++ x ∷ []) ++ r) ≡ wrong = rw append-assoc w in
-    wrong-case a h x r ps v (standing (h .octets ++ x ∷ [])) refl (λ q. feed-wrong a (grown h x) r ps q v)
+    wrong-case a h x r ps v (standing (h .octets ++ x ∷ [])) refl (λ q. feed-wrong a (grown a h x) r ps q v)
 
 -- a whole packet is handed out
 pub feed-whole : (a : ℕ) (h : Held) (x : ℕ) (r : List ℕ) (ps : List Handed) → Good (h .octets ++ x ∷ r)
     → cutBy (feed a (holding h ps) (x ∷ r)) ≡ record { inStep = true; held = []; packets = bare ps ++ (h .octets ++ x ∷ r) ∷ [] }
 feed-whole a h x [] ps g =
     ap cutBy (push-done a h ps x (standing-whole (h .octets ++ x ∷ []) [] (h .octets ++ x ∷ []) (append-nil (h .octets ++ x ∷ [])) g refl))
-    ∙ rw (bare-append ps (given a (grown h x) ∷ []))
+    ∙ rw (bare-append ps (given a (grown a h x) ∷ []))
 feed-whole a h x (y ∷ r) ps g =
     let e : (h .octets ++ x ∷ []) ++ y ∷ r ≡ h .octets ++ x ∷ y ∷ r = append-assoc (h .octets) (x ∷ []) (y ∷ r) in
     let g′ : Good ((h .octets ++ x ∷ []) ++ y ∷ r) = rw e g in
     ap (λ (w : Work). cutBy (feed a w (y ∷ r)))
     (push-on a h ps x (standing-unfinished (h .octets ++ x ∷ []) (y ∷ r) (h .octets ++ x ∷ y ∷ r) e g (omega arith)))
-    ∙ feed-whole a (grown h x) y r ps g′
+    ∙ feed-whole a (grown a h x) y r ps g′
     ∙ rw e
 
 -- ---- the laws of `cutOf`
@@ -193,3 +193,59 @@ cuts-whole s w =
     let same : lengthIn (take n s) ≡ n = length-said (take n s) (drop n s) s (take-append-drop n s) (omega (arith, b .least)) in
     let g : Good (take n s) = record { least = omega (arith, b .least); greatest = omega (arith, b .greatest); says = omega arith } in
     ap (λ (l : List ℕ). cutBy (feed 0 (holding nothing []) l)) (sym (take-append-drop n s)) ∙ whole-then 0 (take n s) (drop n s) g
+
+-- ---- first numbers
+
+-- new packets behind those handed out before, the next of them begun in frame f
+record Firsts (f a : ℕ) (ps : List Handed) (w : Work) : Type 0 where
+  new : List Handed
+  all : w .packets ≡ ps ++ new
+  packets : firsts new ≡ firstsOf f a (length new)
+  left : begunIn 0 (w .held .first) (length (w .held .octets)) ≡ begunIn 0 (firstBehind f a (length new)) (length (w .held .octets))
+
+begun-grown : (a first x : ℕ) (l : List ℕ) → begunIn a (begunIn a first (length l)) (length (l ++ x ∷ [])) ≡ begunIn a first (length l)
+begun-grown a first x [] = refl
+begun-grown a first x (y ∷ l) = refl
+
+begun-held : (a first n : ℕ) → begunIn 0 first n ≡ begunIn 0 (begunIn a first n) n
+begun-held a first zero = refl
+begun-held a first (suc n) = refl
+
+behind-same : (a n : ℕ) → firstBehind a a n ≡ a
+behind-same a zero = refl
+behind-same a (suc n) = refl
+
+abbrev Fed : ℕ → List ℕ → Type 0
+Fed a xs = (h : Held) (ps : List Handed) → Firsts (begunIn a (h .first) (length (h .octets))) a ps (feed a (holding h ps) xs)
+
+fed-more : (a x : ℕ) (xs : List ℕ) → Fed a xs → (h : Held) (ps : List Handed) (st : Standing) → standing (h .octets ++ x ∷ []) ≡ st
+    → Firsts (begunIn a (h .first) (length (h .octets))) a ps (feed a (holding h ps) (x ∷ xs))
+fed-more a x xs rec h ps unfinished e =
+    rw (push-on a h ps x e)
+    (subst (λ (f : ℕ). Firsts f a ps (feed a (holding (grown a h x) ps) xs)) (begun-grown a (h .first) x (h .octets)) (rec (grown a h x) ps))
+fed-more a x xs rec h ps wrong e =
+    rw (push-bad a h ps x e, feed-out a ps xs) (record { new = []; all = sym (append-nil ps); packets = refl; left = refl })
+fed-more a x xs rec h ps whole e =
+    let q : Handed = given a (grown a h x) in
+    let t : Firsts a a (ps ++ q ∷ []) (feed a (holding nothing (ps ++ q ∷ [])) xs) = rec nothing (ps ++ q ∷ []) in
+    rw (push-done a h ps x e)
+    (record {
+      new = q ∷ t .new;
+      all = t .all ∙ append-assoc ps (q ∷ []) (t .new);
+      packets = ap (λ (l : List ℕ). q .first ∷ l) (t .packets);
+      left = t .left ∙ ap (λ (m : ℕ). begunIn 0 m (length (feed a (holding nothing (ps ++ q ∷ [])) xs .held .octets))) (behind-same a (length (t .new)));
+    })
+
+feed-firsts : (a : ℕ) (xs : List ℕ) → Fed a xs
+feed-firsts a [] h ps = record { new = []; all = sym (append-nil ps); packets = refl; left = begun-held a (h .first) (length (h .octets)) }
+feed-firsts a (x ∷ xs) h ps = fed-more a x xs (feed-firsts a xs) h ps (standing (h .octets ++ x ∷ [])) refl
+
+pub firsts-on : FirstsOn
+firsts-on a h xs =
+    let t = feed-firsts a xs h [] in
+    let w = feed a (holding h []) xs in
+    record {
+      packets = rw (t .all) (t .packets);
+      left = ap (λ (m : ℕ). heldOf m (w .held .octets)) (t .left)
+          ∙ ap (λ (ps : List Handed). cleared (heldOf (firstBehind (begunIn a (h .first) (length (h .octets))) a (length ps)) (w .held .octets))) (sym (t .all));
+    }

@@ -6,9 +6,9 @@ use Prim.Native.Nat.{ℕ, zero, suc}
 use lib.ListN.{drop}
 use lib.Dec.{eqb}
 use Rattle.counts.specs.Lost.{lostSince, number}
-use Rattle.rules.specs.Channel.{Held, nothing, grown, Handed, given, Standing, unfinished, whole, wrong, standing, Work, holding, settle, push, feed, fits, enter, follow, afterLoss, step}
+use Rattle.rules.specs.Channel.{Held, nothing, cleared, grown, Handed, given, Standing, unfinished, whole, wrong, standing, Work, holding, settle, push, feed, fits, enter, follow, afterLoss, step}
 use Rattle.rules.specs.Step.{StepFields}
-use Rattle.rules.specs.Bounds.{Under, StepArrivals}
+use Rattle.rules.specs.Bounds.{Under, StepArrivals, StepFirst}
 
 under-more : (a : ℕ) (ps : List Handed) (p : Handed) → Under a ps → p .arrival ≡ a → Under a (ps ++ p ∷ [])
 under-more a [] p u e = (e, tt)
@@ -22,7 +22,7 @@ settle-under a whole h ps u = under-more a ps (given a h) u refl
 push-under : (a : ℕ) (b : Bool) (h : Held) (ps : List Handed) (x : ℕ) → Under a ps
     → Under a (push a (record { inStep = b; held = h; packets = ps }) x .packets)
 unfolding push
-push-under a true h ps x u = settle-under a (standing (grown h x .octets)) (grown h x) ps u
+push-under a true h ps x u = settle-under a (standing (grown a h x .octets)) (grown a h x) ps u
 push-under a false h ps x u = u
 
 feed-under : (a : ℕ) (xs : List ℕ) (w : Work) → Under a (w .packets) → Under a (feed a w xs .packets)
@@ -51,3 +51,10 @@ step-fields a c f = record { lost = refl; packets = refl; last = refl; inStep = 
 pub step-arrivals : StepArrivals
 step-arrivals a c f =
     rw (step-fields a c f .packets) (loss-under a (number (lostSince (c .last) (f .count))) (c .inStep) (c .held) (f .pointer) (f .octets))
+
+none-cleared : (h : Held) → cleared h .octets ≡ [] → cleared h .first ≡ 0
+none-cleared h e = rw e
+
+pub step-first : StepFirst
+step-first a c f =
+    rw (step-fields a c f .held) (none-cleared (afterLoss a (number (lostSince (c .last) (f .count))) (c .inStep) (c .held) (f .pointer) (f .octets) .held))

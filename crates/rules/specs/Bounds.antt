@@ -51,3 +51,7 @@ Under a (p ∷ ps) = (p .arrival ≡ a) × Under a ps
 
 abbrev pub StepArrivals : Type 0
 StepArrivals = (a : ℕ) (c : Channel) (f : Piece) → Under a (step a c f .packets)
+
+-- With nothing held the first number is 0.
+abbrev pub StepFirst : Type 0
+StepFirst = (a : ℕ) (c : Channel) (f : Piece) → step a c f .next .held .octets ≡ [] → step a c f .next .held .first ≡ 0

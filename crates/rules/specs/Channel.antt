@@ -34,28 +34,39 @@ standing h =
     cond (ltb (length h) 6) unfinished
     (cond (allowed (lengthIn h)) (cond (ltb (length h) (lengthIn h)) unfinished whole) wrong)
 
--- A packet that is not whole yet: its octets so far.
+-- A packet that is not whole yet: the arrival number of the frame with its first octet, and its octets so far.
 pub record Held : Type 0 where
+  pub first : ℕ
   pub octets : List ℕ
 
-abbrev pub heldOf : List ℕ → Held
-heldOf octets = record { octets = octets }
+abbrev pub heldOf : ℕ → List ℕ → Held
+heldOf first octets = record { first = first; octets = octets }
 
 abbrev pub nothing : Held
-nothing = heldOf []
+nothing = heldOf 0 []
 
--- One octet more.
-abbrev pub grown : Held → ℕ → Held
-grown h x = heldOf (h .octets ++ x ∷ [])
+-- In which frame a packet was begun of which n octets are held: in `first`; with none held, in frame a.
+abbrev pub begunIn : ℕ → ℕ → ℕ → ℕ
+begunIn a first zero = a
+begunIn a first (suc n) = first
 
--- A packet handed out, with the arrival number of the frame that held its last octet.
+-- One octet more, of the frame a.
+abbrev pub grown : ℕ → Held → ℕ → Held
+grown a h x = heldOf (begunIn a (h .first) (length (h .octets))) (h .octets ++ x ∷ [])
+
+-- As a channel holds it: with nothing held the first number is 0.
+abbrev pub cleared : Held → Held
+cleared h = heldOf (begunIn 0 (h .first) (length (h .octets))) (h .octets)
+
+-- A packet handed out, with the arrival numbers of the frames that held its first octet and its last.
 pub record Handed : Type 0 where
+  pub first : ℕ
   pub arrival : ℕ
   pub packet : List ℕ
 
 -- What is held, now whole, is handed out at the frame with arrival number a.
 abbrev pub given : ℕ → Held → Handed
-given a h = record { arrival = a; packet = h .octets }
+given a h = record { first = h .first; arrival = a; packet = h .octets }
 
 -- What the rules work on: in step or not, what is held, the packets handed out.
 pub record Work : Type 0 where
@@ -76,7 +87,7 @@ settle a whole h ps = holding nothing (ps ++ given a h ∷ [])
 settle a wrong h ps = outOfStep ps
 
 unfoldable pub push : ℕ → Work → ℕ → Work
-push a w x = cond (w .inStep) (settle a (standing (grown (w .held) x .octets)) (grown (w .held) x) (w .packets)) w
+push a w x = cond (w .inStep) (settle a (standing (grown a (w .held) x .octets)) (grown a (w .held) x) (w .packets)) w
 
 abbrev pub feed : ℕ → Work → List ℕ → Work
 feed a w [] = w
@@ -133,7 +144,8 @@ pub record Answer : Type 0 where
   pub next : Channel
 
 abbrev pub answer : ℕ → Loss → Work → Answer
-answer count lost w = record { lost = lost; packets = w .packets; next = record { last = some count; inStep = w .inStep; held = w .held } }
+answer count lost w =
+    record { lost = lost; packets = w .packets; next = record { last = some count; inStep = w .inStep; held = cleared (w .held) } }
 
 -- The frame f, offered under the arrival number a.
 unfoldable pub step : ℕ → Channel → Piece → Answer

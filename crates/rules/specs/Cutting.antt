@@ -1,11 +1,11 @@
 -- Rule 5 a packet at a time, for code that cuts packets out of octets.
-use Prim.Native.Nat.{ℕ}
+use Prim.Native.Nat.{ℕ, zero, suc}
 use mathlib.Core.Path.{_≡_}
 use mathlib.Core.List.{List, [], _∷_, _++_}
 use mathlib.Core.Bool.{Bool, true, false}
-use lib.ListN.{take, drop}
-use Rattle.rules.specs.Channel.{Held, nothing, Handed, Work, holding, feed, standing, unfinished, whole, wrong, lengthIn}
-use Rattle.rules.specs.Packets.{bare}
+use lib.ListN.{length, take, drop}
+use Rattle.rules.specs.Channel.{Held, heldOf, nothing, begunIn, cleared, Handed, Work, holding, feed, standing, unfinished, whole, wrong, lengthIn}
+use Rattle.rules.specs.Packets.{bare, firsts}
 
 -- What of a channel's work does not depend on arrival numbers: in step or not, the octets held, the packets handed out.
 pub record Cut : Type 0 where
@@ -23,6 +23,23 @@ cutOf s = cutBy (feed 0 (holding nothing []) s)
 -- The same with packets cut before.
 abbrev pub behind : List (List ℕ) → Cut → Cut
 behind ps c = record { inStep = c .inStep; held = c .held; packets = ps ++ c .packets }
+
+-- The first numbers of n packets that frame a completes, the first of them begun in frame f; and of what is left behind them.
+abbrev pub firstsOf : ℕ → ℕ → ℕ → List ℕ
+firstsOf f a zero = []
+firstsOf f a (suc n) = f ∷ firstsOf a a n
+
+abbrev pub firstBehind : ℕ → ℕ → ℕ → ℕ
+firstBehind f a zero = f
+firstBehind f a (suc n) = a
+
+-- Only the first packet of a frame, or else what is left, goes on from what is held: by how many packets are handed out.
+pub record Begins (f a : ℕ) (w : Work) : Type 0 where
+  pub packets : firsts (w .packets) ≡ firstsOf f a (length (w .packets))
+  pub left : cleared (w .held) ≡ cleared (heldOf (firstBehind f a (length (w .packets))) (w .held .octets))
+
+abbrev pub FirstsOn : Type 0
+FirstsOn = (a : ℕ) (h : Held) (xs : List ℕ) → Begins (begunIn a (h .first) (length (h .octets))) a (feed a (holding h []) xs)
 
 -- What is held and the frame's octets are cut as one, under any arrival number.
 abbrev pub CutsOn : Type 0

@@ -22,6 +22,10 @@ abbrev pub joined : List (List ℕ) → List ℕ
 joined [] = []
 joined (p ∷ ps) = p ++ joined ps
 
+-- The arrival numbers of the frames with the packets' first octets.
+abbrev pub firsts : List Handed → List ℕ
+firsts ps = map (λ (x : Handed). x .first) ps
+
 -- Packets handed out, without their arrival numbers.
 abbrev pub bare : List Handed → List (List ℕ)
 bare ps = map (λ (x : Handed). x .packet) ps

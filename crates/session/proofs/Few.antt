@@ -22,11 +22,12 @@ use Rattle.session.proofs.Staying.{ruled-bounded, counted-sound, few-re
 pub record Few (o : Outcome) : Type 0 where
   pub count : o .answer .fields .packets ≡ length (o .packets)
   pub under : Under (o .answer .fields .arrival) (o .packets)
+  pub used : Under (o .session .arrival) (o .packets)
   pub packets : length (bare (o .packets)) ≤ 16
   pub octets : length (joined (bare (o .packets))) ≤ 501
 
 refused-few : (s : Session) (n octet : ℕ) → Few (refusedAt s n octet)
-refused-few s n octet = record { count = refl; under = tt; packets = omega arith; octets = omega arith }
+refused-few s n octet = record { count = refl; under = tt; used = tt; packets = omega arith; octets = omega arith }
 
 pub ruled-arrivals : (s : Session) (f : Frame) (d : List ℕ) → Under (s .arrival) (ruled s f d .packets)
 unfolding ruled
@@ -36,7 +37,7 @@ accepted-few : (s : Session) (f : Frame) (d : List ℕ) → unsound s ≡ false 
 unfolding accepted
 accepted-few s f d u l =
     let b : Bounded (ruled s f d) = ruled-bounded s f d u l in
-    record { count = refl; under = ruled-arrivals s f d; packets = b .packets; octets = b .octets }
+    record { count = refl; under = ruled-arrivals s f d; used = ruled-arrivals s f d; packets = b .packets; octets = b .octets }
 
 heeded-few : (s : Session) (frame : List ℕ) → unsound s ≡ false → Few (heeded s frame (readFrame (s .t) frame))
 heeded-few s frame u =

@@ -6,40 +6,44 @@ use native.Mathlib.Omega.{arith}
 use mathlib.Core.Path.{_≡_, refl, sym, ap, _∙_, subst}
 use mathlib.Core.Bool.{Bool, true, false, _||_}
 use mathlib.Core.List.{List, [], _∷_, _++_, map, append-assoc, append-nil}
-use lib.ListN.{length, take, drop, set, length-append, length-drop, length-set, drop-of-length-le, take-append-drop}
+use lib.ListN.{length, take, drop, set, length-append, length-drop, length-map, drop-of-length-le}
 use lib.Dec.{ltb}
-use lib.Seq.{length-take-le, take-suc-set, drop-set-lt, drop-drop, take-nil}
+use lib.Seq.{length-take-le, drop-drop, take-nil}
 use Rattle.octets.specs.Parts.{written}
 use Rattle.rules.specs.Channel.{standing, unfinished, whole, wrong, lengthIn}
 use Rattle.rules.specs.Packets.{joined}
-use Rattle.rules.specs.Cutting.{Cut, cutOf, behind}
+use Rattle.rules.specs.Cutting.{Cut, cutOf, behind, firstsOf, firstBehind}
 use Rattle.rules.proofs.Bounds.{joined-append, sound-held}
 use Rattle.rules.proofs.Standing.{Order, upTo, past, order, standing-short, standing-part, standing-full}
 use Rattle.rules.proofs.Cutting.{Whole, whole-size, cuts-unfinished, cuts-wrong, cuts-whole}
 use Rattle.session.specs.Asked.{Counted, Left}
 use Rattle.session.specs.Promised.{Cuts}
+use Rattle.session.proofs.Entries.{same-length, entered, length-firsts, firsts-more}
 use Rattle.session.proofs.Fitting.{Within, outside, standing-outside, less-than-said}
 
--- Packets are being cut out of held and xs: `done` are cut, with `at` octets, and their lengths are written.
-pub record Going (held xs list₀ list : List ℕ) (packets at : ℕ) : Type 0 where
+-- Packets are being cut out of held, begun in frame f, and xs, of frame a: `done` are cut, with `at` octets, and their lengths and first
+-- numbers are written; the next is begun in frame `from`.
+pub record Going (f a : ℕ) (held xs lengths₀ firsts₀ lengths firsts : List ℕ) (from packets at : ℕ) : Type 0 where
   pub within : at ≤ length held + length xs
   pub past : at < length held → at ≡ 0
-  pub small : packets ≤ length list
-  pub same : length list ≡ length list₀
-  pub rest : drop packets list ≡ drop packets list₀
   pub done : List (List ℕ)
   pub count : length done ≡ packets
-  pub lengths : map length done ≡ take packets list
   pub front : joined done ≡ take at (held ++ xs)
   pub cont : cutOf (held ++ xs) ≡ behind done (cutOf (drop at (held ++ xs)))
+  pub small : packets ≤ length lengths₀
+  pub few : packets ≤ length firsts₀
+  pub wrote : lengths ≡ written (map length done) lengths₀
+  pub numbered : firsts ≡ written (firstsOf f a packets) firsts₀
+  pub begins : from ≡ firstBehind f a packets
 
 -- A turn of the loop that cuts a packet of n octets.
-pub record Turn (held xs list₀ list : List ℕ) (packets at n : ℕ) : Type 0 where
+pub record Turn (f a : ℕ) (held xs lengths₀ firsts₀ lengths firsts : List ℕ) (from packets at n : ℕ) : Type 0 where
   pub least : 16 ≤ n
   pub greatest : n ≤ 251
   pub inside : at + n ≤ length held + length xs
-  pub room : packets < length list
-  pub on : Going held xs list₀ (set list packets n) (packets + 1) (at + n)
+  pub room : packets < length lengths
+  pub numbers : packets < length firsts
+  pub on : Going f a held xs lengths₀ firsts₀ (set lengths packets n) (set firsts packets from) a (packets + 1) (at + n)
 
 map-append : (ps : List (List ℕ)) (p : List ℕ) → map length (ps ++ p ∷ []) ≡ map length ps ++ length p ∷ []
 map-append [] p = refl
@@ -60,23 +64,35 @@ past-more held xs (suc a) u p h = go (order (suc (suc a)) (length held))
     go (upTo l t) = absurd (omega (arith, p l))
     go (past l t) = omega arith
 
-pub going-start : (held xs list : List ℕ) → Going held xs list list 0 0
-going-start held xs list = record {
+pub going-start : (f a : ℕ) (held xs lengths firsts : List ℕ) → Going f a held xs lengths firsts lengths firsts f 0 0
+going-start f a held xs lengths firsts = record {
   within = omega arith;
   past = λ h. refl;
-  small = omega arith;
-  same = refl;
-  rest = refl;
   done = [];
   count = refl;
-  lengths = refl;
   front = refl;
   cont = refl;
+  small = omega arith;
+  few = omega arith;
+  wrote = refl;
+  numbered = refl;
+  begins = refl;
 }
 
-module _ (held xs list₀ list : List ℕ) (packets at : ℕ) (g : Going held xs list₀ list packets at) where
+module _ (f a : ℕ) (held xs lengths₀ firsts₀ lengths firsts : List ℕ) (from packets at : ℕ)
+    (g : Going f a held xs lengths₀ firsts₀ lengths firsts from packets at) where
   abbrev s : List ℕ
   s = held ++ xs
+
+  -- so many lengths
+  sized : length (map length (g .done)) ≡ packets
+  sized = length-map (g .done) length ∙ g .count
+
+  pub lengths-same : length lengths ≡ length lengths₀
+  lengths-same = ap length (g .wrote) ∙ same-length (map length (g .done)) lengths₀ (omega (arith, sized, g .small))
+
+  pub firsts-same : length firsts ≡ length firsts₀
+  firsts-same = ap length (g .numbered) ∙ same-length (firstsOf f a packets) firsts₀ (omega (arith, length-firsts f a packets, g .few))
 
   ahead : length (drop at s) ≡ length held + length xs - at
   ahead = length-drop at s ∙ ap (λ (k : ℕ). k - at) (length-append held xs)
@@ -93,44 +109,53 @@ module _ (held xs list₀ list : List ℕ) (packets at : ℕ) (g : Going held xs
         g .cont ∙ ap (behind (g .done)) (cuts-whole (drop at s) w)
         ∙ simp (append-assoc, drop-drop)
 
-    pub going-room : length (cutOf s .packets) ≤ length list₀ → packets < length list
-    going-room h =
+    -- a packet more has an entry
+    going-room : (m : ℕ) → length (cutOf s .packets) ≤ m → packets < m
+    going-room m h =
         let a : length (cutOf s .packets) ≡ length (g .done ++ take n (drop at s) ∷ []) + length (cutOf (drop (at + n) s) .packets) =
         ap (λ (c : Cut). length (c .packets)) cut-more ∙ length-append (g .done ++ take n (drop at s) ∷ []) (cutOf (drop (at + n) s) .packets) in
         let b : length (g .done ++ take n (drop at s) ∷ []) ≡ length (g .done) + 1 = length-append (g .done) (take n (drop at s) ∷ []) in
-        omega (arith, g .count, g .same)
+        omega (arith, g .count)
 
-    pub going-on : Counted held xs list₀ → packets < length list → Going held xs list₀ (set list packets n) (packets + 1) (at + n)
-    going-on k l = record {
+    next-length : packets < length lengths₀ → set lengths packets n ≡ written (map length (g .done ++ take n (drop at s) ∷ [])) lengths₀
+    next-length l =
+        ap (λ (m : List ℕ). set m packets n) (g .wrote)
+        ∙ ap (λ (i : ℕ). set (written (map length (g .done)) lengths₀) i n) (sym sized)
+        ∙ entered (map length (g .done)) lengths₀ n (omega (arith, sized))
+        ∙ ap (λ (m : List ℕ). written m lengths₀)
+        (sym (map-append (g .done) (take n (drop at s)) ∙ ap (λ (k : ℕ). map length (g .done) ++ k ∷ []) (length-take-le n (drop at s) (size .there))))
+
+    next-first : packets < length firsts₀ → set firsts packets from ≡ written (firstsOf f a (packets + 1)) firsts₀
+    next-first l =
+        ap (λ (m : List ℕ). set m packets from) (g .numbered)
+        ∙ ap (λ (i : ℕ). set (written (firstsOf f a packets) firsts₀) i from) (sym (length-firsts f a packets))
+        ∙ entered (firstsOf f a packets) firsts₀ from (omega (arith, length-firsts f a packets))
+        ∙ ap (λ (x : ℕ). written (firstsOf f a packets ++ x ∷ []) firsts₀) (g .begins)
+        ∙ ap (λ (m : List ℕ). written m firsts₀) (firsts-more f a packets)
+        ∙ ap (λ (i : ℕ). written (firstsOf f a i) firsts₀) (sym (add-one packets))
+
+    going-on : Counted held xs lengths₀ firsts₀
+        → Going f a held xs lengths₀ firsts₀ (set lengths packets n) (set firsts packets from) a (packets + 1) (at + n)
+    going-on k = record {
       within = omega (arith, ahead, size .there);
       past = λ h. absurd (omega (arith, past-more held xs at (k .begun .unfinished) (g .past) (size .least), h));
-      small = simp length-set (omega arith);
-      same = simp length-set (g .same);
-      rest =
-          drop-set-lt (packets + 1) list packets n (omega arith)
-          ∙ sym (drop-drop 1 packets list)
-          ∙ ap (drop 1) (g .rest)
-          ∙ drop-drop 1 packets list₀;
       done = g .done ++ take n (drop at s) ∷ [];
       count = length-append (g .done) (take n (drop at s) ∷ []) ∙ ap (λ (k : ℕ). k + 1) (g .count);
-      lengths =
-          map-append (g .done) (take n (drop at s))
-          ∙ simp (g .lengths, length-take-le n (drop at s) (size .there), add-one, take-suc-set list packets n l);
       front =
           joined-append (g .done) (take n (drop at s) ∷ [])
           ∙ (simp (g .front, append-nil))
           ∙ take-more at n s;
       cont = cut-more;
+      small = omega (arith, going-room (length lengths₀) (k .entries));
+      few = omega (arith, going-room (length firsts₀) (k .numbers));
+      wrote = next-length (going-room (length lengths₀) (k .entries));
+      numbered = next-first (going-room (length firsts₀) (k .numbers));
+      begins = rw add-one refl;
     }
-
-  wrote : list ≡ written (map length (g .done)) list₀
-  wrote =
-      let l : length (take packets list) ≡ packets = length-take-le packets list (g .small) in
-      simp (g .lengths, l, ← g .rest, take-append-drop)
 
   -- where the packets end, what is left is held, or a wrong length drops it
   stops : (b : Bool) (left : List ℕ) (kept : ℕ) → cutOf (drop at s) ≡ record { inStep = b; held = left; packets = [] } → left ≡ drop kept s
-      → Left held xs kept → Cuts held xs (record { packets = packets; octets = at; kept = kept; instep = b }) list₀ list
+      → Left held xs kept → Cuts f a held xs (record { packets = packets; octets = at; kept = kept; first = from; instep = b }) lengths₀ firsts₀ lengths firsts
   stops b left kept h r l =
       let e : cutOf s ≡ record { inStep = b; held = left; packets = g .done } = g .cont ∙ ap (behind (g .done)) h ∙ simp append-nil in
       record {
@@ -141,17 +166,25 @@ module _ (held xs list₀ list : List ℕ) (packets at : ℕ) (g : Going held xs
         kept = l;
         within = g .within;
         past = g .past;
-        lengths = wrote ∙ ap (λ (c : Cut). written (map length (c .packets)) list₀) (sym e);
+        first = g .begins;
+        lengths = g .wrote ∙ ap (λ (c : Cut). written (map length (c .packets)) lengths₀) (sym e);
+        firsts = g .numbered;
       }
 
-  pub going-unfinished : standing (drop at s) ≡ unfinished
-      → Cuts held xs (record { packets = packets; octets = at; kept = at; instep = true }) list₀ list
+  -- the same where the next packet is not whole, or its length is wrong
+  abbrev Held : Type 0
+  Held = Cuts f a held xs (record { packets = packets; octets = at; kept = at; first = from; instep = true }) lengths₀ firsts₀ lengths firsts
+
+  abbrev Dropped : Type 0
+  Dropped =
+      Cuts f a held xs (record { packets = packets; octets = at; kept = length held + length xs; first = from; instep = false }) lengths₀ firsts₀ lengths firsts
+
+  going-unfinished : standing (drop at s) ≡ unfinished → Held
   going-unfinished u =
       stops true (drop at s) at (cuts-unfinished (drop at s) u) refl
       (record { within = g .within; past = g .past; short = sound-held true (drop at s) u })
 
-  pub going-wrong : standing (drop at s) ≡ wrong
-      → Cuts held xs (record { packets = packets; octets = at; kept = length held + length xs; instep = false }) list₀ list
+  going-wrong : standing (drop at s) ≡ wrong → Dropped
   going-wrong u =
       let d : drop (length held + length xs) s ≡ [] = drop-of-length-le s {i = length held + length xs} (omega (arith, length-append held xs)) in
       stops false [] (length held + length xs) (cuts-wrong (drop at s) u) (sym d)
@@ -159,27 +192,26 @@ module _ (held xs list₀ list : List ℕ) (packets at : ℕ) (g : Going held xs
 
   -- the same by the code's tests, n being the length that the packet says
   module _ (n : ℕ) (e : n ≡ lengthIn (drop at s)) where
-    pub stops-wrong : 6 ≤ length held + length xs - at → (ltb n 16 || ltb 251 n) ≡ true
-        → Cuts held xs (record { packets = packets; octets = at; kept = length held + length xs; instep = false }) list₀ list
+    pub stops-wrong : 6 ≤ length held + length xs - at → (ltb n 16 || ltb 251 n) ≡ true → Dropped
     stops-wrong h t = going-wrong (standing-outside (drop at s) (omega (arith, ahead)) (rw e at (outside n t)))
 
-    pub stops-part : Within n → length held + length xs - at < n
-        → Cuts held xs (record { packets = packets; octets = at; kept = at; instep = true }) list₀ list
+    pub stops-part : Within n → length held + length xs - at < n → Held
     stops-part v h =
         going-unfinished (standing-part (drop at s) (omega (arith, e, v .least)) (omega (arith, e, v .greatest)) (omega (arith, e, ahead)))
 
-    pub turn : Counted held xs list₀ → Within n → n ≤ length held + length xs - at → Turn held xs list₀ list packets at n
+    pub turn : Counted held xs lengths₀ firsts₀ → Within n → n ≤ length held + length xs - at
+        → Turn f a held xs lengths₀ firsts₀ lengths firsts from packets at n
     turn k v h =
         let w : standing (drop at s) ≡ whole =
         standing-full (drop at s) (omega (arith, e, v .least)) (omega (arith, e, v .greatest)) (omega (arith, e, ahead)) in
-        let r = going-room w (k .entries) in
         record {
           least = v .least;
           greatest = v .greatest;
           inside = omega arith;
-          room = r;
-          on = subst (λ (m : ℕ). Going held xs list₀ (set list packets m) (packets + 1) (at + m)) (sym e) (going-on w k r);
+          room = omega (arith, going-room w (length lengths₀) (k .entries), lengths-same);
+          numbers = omega (arith, going-room w (length firsts₀) (k .numbers), firsts-same);
+          on = subst (λ (m : ℕ). Going f a held xs lengths₀ firsts₀ (set lengths packets m) (set firsts packets from) a (packets + 1) (at + m)) (sym e) (going-on w k);
         }
 
-  pub stops-short : length held + length xs - at < 6 → Cuts held xs (record { packets = packets; octets = at; kept = at; instep = true }) list₀ list
+  pub stops-short : length held + length xs - at < 6 → Held
   stops-short h = going-unfinished (standing-short (drop at s) (omega (arith, ahead)))

@@ -10,7 +10,7 @@ use lib.Seq.{length-take-le, take-all}
 use Rattle.octets.specs.Parts.{put, written}
 use Rattle.octets.proofs.Placing.{put-first, after}
 use Rattle.counts.specs.declared.ChannelCount.{ChannelCount}
-use Rattle.rules.specs.Channel.{heldOf}
+use Rattle.rules.specs.Channel.{heldOf, begunIn, cleared}
 use Rattle.session.specs.Channel.{channelOf, stored}
 use Rattle.session.specs.Asked.{Front, Left}
 use Rattle.session.specs.declared.Channel.{Channel}
@@ -22,17 +22,17 @@ drop-zeros zero (suc k) = rw zero-sub
 drop-zeros (suc n) (suc k) = drop-zeros n k ∙ rw suc-sub-suc
 
 -- two parts put into zeros
-pub kept : (count : ChannelCount) (instep : Bool) (a b : List ℕ) {o₁ o₂ : List ℕ} → length a + length b ≤ 250
-    → o₁ ≡ put (replicate 250 0) 0 a → o₂ ≡ put o₁ (length a) b
-    → _≡_ {A = Channel} (record { last = count; heard = true; instep = instep; length = length a + length b; held = o₂ })
-    (stored (channelOf (count .0) instep (heldOf (a ++ b))))
+pub keeps : (count : ChannelCount) (instep : Bool) (first : ℕ) (a b : List ℕ) {o₁ o₂ : List ℕ} {begun : ℕ} → length a + length b ≤ 250
+    → o₁ ≡ put (replicate 250 0) 0 a → o₂ ≡ put o₁ (length a) b → begun ≡ begunIn 0 first (length a + length b)
+    → _≡_ {A = Channel} (record { last = count; heard = true; instep = instep; first = begun; length = length a + length b; held = o₂ })
+    (stored (channelOf (count .0) instep (cleared (heldOf first (a ++ b)))))
 unfolding stored
-kept count instep a b {o₁} {o₂} l e₁ e₂ =
+keeps count instep first a b {o₁} {o₂} l e₁ e₂ s =
     let z : length (replicate {A = ℕ} 250 0) ≡ 250 = length-replicate {A = ℕ} 250 0 in
     let e : o₂ ≡ written (a ++ b) (replicate 250 0) =
     after a b (replicate 250 0) (length a) (e₁ ∙ put-first a (replicate 250 0) (omega arith)) e₂ refl (omega arith) in
     let f : o₂ ≡ (a ++ b) ++ replicate (250 - length (a ++ b)) 0 = e ∙ ap (λ (r : List ℕ). (a ++ b) ++ r) (drop-zeros 250 (length (a ++ b))) in
-    simp (f, length-append)
+    simp (f, length-append, s)
 
 module _ (d : List ℕ) (i : ℕ) where
   -- a part to the end

@@ -1,4 +1,5 @@
 pub mod Admitting
+pub mod Entries
 pub mod Few
 pub mod Fitting
 pub mod Following

@@ -1,15 +1,15 @@
 -- Rule 5 as `cutOf` has it, and as `feed` has it.
 use Prim.Native.Nat.{ℕ, _≤_}
 use native.Mathlib.Omega.{arith}
-use mathlib.Core.Path.{_≡_, refl, sym, ap, _∙_}
+use mathlib.Core.Path.{_≡_, sym, ap, _∙_, subst}
 use mathlib.Core.Bool.{Bool, _&&_}
 use mathlib.Core.List.{List, [], _++_, map}
 use lib.ListN.{length, take, drop, length-map}
 use Rattle.octets.specs.Parts.{written}
-use Rattle.rules.specs.Channel.{heldOf, Handed, Work, holding, feed}
+use Rattle.rules.specs.Channel.{heldOf, begunIn, cleared, Handed, Work, holding, feed}
 use Rattle.rules.specs.Packets.{bare, joined}
-use Rattle.rules.specs.Cutting.{Cut, cutBy, cutOf}
-use Rattle.rules.proofs.Cutting.{cuts-on}
+use Rattle.rules.specs.Cutting.{Cut, cutBy, cutOf, firstsOf, firstBehind, Begins}
+use Rattle.rules.proofs.Cutting.{cuts-on, firsts-on}
 use Rattle.session.specs.Channel.{channelOf, stored}
 use Rattle.session.specs.Lent.{lent}
 use Rattle.session.specs.Asked.{Taken, Counted, Front}
@@ -18,11 +18,11 @@ use Rattle.session.specs.declared.Channel.{Channel}
 use Rattle.session.specs.declared.cutting.Found.{Found}
 use Rattle.session.proofs.Lending.{lent-same}
 
-module _ (held xs out list : List ℕ) (t : Taken held xs (lent out list)) where
-  pub to-cut : Counted held xs list
-  to-cut = record { begun = t .begun; entries = omega (arith, t .most, t .room .lengths) }
+module _ (held xs out lengths firsts : List ℕ) (t : Taken held xs (lent out lengths firsts)) where
+  pub to-cut : Counted held xs lengths firsts
+  to-cut = record { begun = t .begun; entries = omega (arith, t .most, t .room .lengths); numbers = omega (arith, t .most, t .room .firsts) }
 
-  module _ (r : Found) (list′ : List ℕ) (k : Cuts held xs r list list′) where
+  module _ (f a : ℕ) (r : Found) (lengths′ firsts′ : List ℕ) (k : Cuts f a held xs r lengths firsts lengths′ firsts′) where
     pub few-packets : r .packets ≤ 16
     few-packets = omega (arith, k .packets, t .most)
 
@@ -33,12 +33,13 @@ module _ (held xs out list : List ℕ) (t : Taken held xs (lent out list)) where
       room = omega (arith, k .within, t .begun .short, t .begun .few, t .room .octets);
     }
 
-    module _ (a count : ℕ) (b : Bool) (out′ : List ℕ) (o : out′ ≡ written (take (r .octets) (held ++ xs)) out) where
+    -- g is kept with what is held
+    module _ (g : ℕ) (begun : f ≡ begunIn a g (length held)) (count : ℕ) (b : Bool) (out′ : List ℕ) (o : out′ ≡ written (take (r .octets) (held ++ xs)) out) where
       abbrev work : Work
-      work = feed a (holding (heldOf held) []) xs
+      work = feed a (holding (heldOf g held) []) xs
 
       same : cutBy work ≡ cutOf (held ++ xs)
-      same = cuts-on a (heldOf held) [] xs (t .begun .unfinished)
+      same = cuts-on a (heldOf g held) [] xs (t .begun .unfinished)
 
       in-step : work .inStep ≡ r .instep
       in-step = ap (λ (c : Cut). c .inStep) same ∙ sym (k .inStep)
@@ -49,15 +50,29 @@ module _ (held xs out list : List ℕ) (t : Taken held xs (lent out list)) where
       packets : bare (work .packets) ≡ cutOf (held ++ xs) .packets
       packets = ap (λ (c : Cut). c .packets) same
 
-      pub takes : (x : Channel) → x ≡ stored (channelOf count (b && r .instep) (heldOf (drop (r .kept) (held ++ xs))))
-          → Follows count (inStepIf b work) (record { channel = x; packets = r .packets }) (lent out list) (lent out′ list′)
+      number : r .packets ≡ length (work .packets)
+      number = k .packets ∙ ap length (sym packets) ∙ length-map (work .packets) (λ (p : Handed). p .packet)
+
+      begins : Begins f a work
+      begins = subst (λ (m : ℕ). Begins m a work) (sym begun) (firsts-on a (heldOf g held) xs)
+
+      -- what is left, with its first number
+      left : cleared (heldOf (r .first) (drop (r .kept) (held ++ xs))) ≡ cleared (work .held)
+      left =
+          ap (λ (l : List ℕ). cleared (heldOf (r .first) l)) (sym (is-held ∙ k .rest))
+          ∙ ap (λ (m : ℕ). cleared (heldOf m (work .held .octets))) (k .first ∙ ap (firstBehind f a) number)
+          ∙ sym (begins .left)
+
+      pub takes : (x : Channel) → x ≡ stored (channelOf count (b && r .instep) (cleared (heldOf (r .first) (drop (r .kept) (held ++ xs)))))
+          → Follows count (inStepIf b work) (record { channel = x; packets = r .packets }) (lent out lengths firsts) (lent out′ lengths′ firsts′)
       takes x e = record {
         channel =
             e
-            ∙ ap (λ (l : List ℕ). stored (channelOf count (b && r .instep) (heldOf l))) (sym (is-held ∙ k .rest))
-            ∙ ap (λ (s : Bool). stored (channelOf count (b && s) (work .held))) (sym in-step);
-        packets = k .packets ∙ ap length (sym packets) ∙ length-map (work .packets) (λ (p : Handed). p .packet);
+            ∙ ap (λ h. stored (channelOf count (b && r .instep) h)) left
+            ∙ ap (λ (s : Bool). stored (channelOf count (b && s) (cleared (work .held)))) (sym in-step);
+        packets = number;
         leaves = lent-same
             (o ∙ ap (λ (l : List ℕ). written l out) (sym (ap joined packets ∙ k .front)))
-            (k .lengths ∙ ap (λ (l : List (List ℕ)). written (map length l) list) (sym packets));
+            (k .lengths ∙ ap (λ (l : List (List ℕ)). written (map length l) lengths) (sym packets))
+            (k .firsts ∙ ap (λ (n : ℕ). written (firstsOf f a n) firsts) number ∙ ap (λ (l : List ℕ). written l firsts) (sym (begins .packets)));
       }

@@ -19,10 +19,11 @@ pub record Begun (held xs : List ℕ) : Type 0 where
   pub short : length held ≤ mostHeld
   pub few : length xs ≤ mostData
 
--- A list with an entry for each packet.
-pub record Counted (held xs list : List ℕ) : Type 0 where
+-- Lists with an entry for each packet.
+pub record Counted (held xs lengths firsts : List ℕ) : Type 0 where
   pub begun : Begun held xs
-  pub entries : length (cutOf (held ++ xs) .packets) ≤ length list
+  pub entries : length (cutOf (held ++ xs) .packets) ≤ length lengths
+  pub numbers : length (cutOf (held ++ xs) .packets) ≤ length firsts
 
 -- n octets of held and xs, which take up all that is held or are none, and room for them.
 pub record Front (held xs : List ℕ) (n : ℕ) (out : List ℕ) : Type 0 where

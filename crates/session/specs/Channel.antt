@@ -19,7 +19,7 @@ view c =
     record {
       last = lastOf (c .heard) (c .last .0);
       inStep = c .instep;
-      held = rules.heldOf (take (c .length) (c .held));
+      held = rules.heldOf (c .first) (take (c .length) (c .held));
     }
 
 abbrev pub heardOf : Option ℕ → Bool
@@ -37,6 +37,7 @@ stored c =
       last = record { 0 = countOf (c .last) };
       heard = heardOf (c .last);
       instep = c .inStep;
+      first = c .held .first;
       length = length (c .held .octets);
       held = c .held .octets ++ replicate (mostHeld - length (c .held .octets)) 0;
     }

@@ -1,19 +1,26 @@
 // One channel: rules 1 to 5.
 ghost use mathlib.Core.Path.{_≡_};
-ghost use mathlib.Core.List.{[], _++_};
-ghost use Prim.Native.Nat.{ℕ, _+_, _≤_};
+ghost use mathlib.Core.List.{_++_};
+ghost use Prim.Native.Nat.{_+_, _≤_};
 ghost use lib.ListN.{length, drop};
-ghost use Rattle.rules.specs.Channel.{heldOf, feed, holding, follow, step};
+ghost use Rattle.rules.specs.Channel.{heldOf, cleared, follow, step};
 ghost use Rattle.session.specs.Channel.{view, channelOf, stored, fresh, channelUnsound};
 ghost use Rattle.session.specs.Lent.{lent};
 ghost use Rattle.session.specs.Asked.{Asked, Followable, Left, Taken};
-ghost use Rattle.session.specs.Promised.{inStepIf, Follows, Heeds};
+ghost use Rattle.session.specs.Promised.{headed, Takes, Follows, Heeds};
 use super::Channel;
 use super::cutting;
 use counts::ChannelCount;
 use counts::Loss;
 use frame::Frame;
 use packet::Packet;
+
+// What of a frame the rules read beside its data: the arrival number, the channel count and the pointer.
+pub(crate) struct Head {
+    pub arrival: u32,
+    pub count: ChannelCount,
+    pub pointer: u8,
+}
 
 // A channel after a frame, how many were lost before it, and how many packets were handed out.
 pub(crate) struct Heeded {
@@ -41,6 +48,7 @@ impl Channel {
             last: ChannelCount(0),
             heard: false,
             instep: false,
+            first: 0,
             length: 0,
             held,
         }
@@ -65,53 +73,66 @@ impl Channel {
         (whole < Packet::LEAST) | (Packet::GREATEST < whole) | (whole <= n)
     }
 
-    // The channel that holds first and then second, with zeros behind them.
-    fn holding(count: ChannelCount, instep: bool, first: &[u8], second: &[u8]) -> Channel
-        requires { ⌜ length (now first) + length (now second) ≤ 250 ⌝ }
-        ensures { λ r. ⌜ r ≡ stored (channelOf (count .0) instep (heldOf (now (first .entry) ++ now (second .entry)))) ⌝ }
+    // The channel that holds front and then back, begun in the frame first, with zeros behind them; with nothing held, first is 0.
+    fn holding(count: ChannelCount, instep: bool, first: u32, front: &[u8], back: &[u8]) -> Channel
+        requires { ⌜ length (now front) + length (now back) ≤ 250 ⌝ }
+        ensures { λ r. ⌜ r ≡ stored (channelOf (count .0) instep (cleared (heldOf first (now (front .entry) ++ now (back .entry))))) ⌝ }
     {
-        let k = first.len();
-        let n = k + second.len();
+        let k = front.len();
+        let n = k + back.len();
         let mut held = [0u8; Channel::HELD];
-        octets::put(&mut held, 0, first);
-        octets::put(&mut held, k, second);
+        octets::put(&mut held, 0, front);
+        octets::put(&mut held, k, back);
+        let begun = cutting::begun(0, first, n);
         Channel {
             last: count,
             heard: true,
             instep,
+            first: begun,
             length: n as u8,
             held,
         }
     }
 
-    // The channel that holds what is behind the first n octets of held and data end to end.
-    fn left(count: ChannelCount, instep: bool, held: &[u8], data: &[u8], n: usize) -> Channel
+    // The channel that holds what is behind the first n octets of held and data end to end, begun in the frame first.
+    fn left(
+        count: ChannelCount,
+        instep: bool,
+        first: u32,
+        held: &[u8],
+        data: &[u8],
+        n: usize,
+    ) -> Channel
         requires { ⌜ Left (now held) (now «data») n ⌝ }
-        ensures { λ r. ⌜ r ≡ stored (channelOf (count .0) instep (heldOf (drop n (now (held .entry) ++ now («data» .entry))))) ⌝ }
+        ensures { λ r. ⌜ r ≡ stored (channelOf (count .0) instep
+            (cleared (heldOf first (drop n (now (held .entry) ++ now («data» .entry)))))) ⌝ }
     {
         let k = held.len();
         if n < k {
-            return Channel::holding(count, instep, held, data);
+            return Channel::holding(count, instep, first, held, data);
         }
         let at = n - k;
-        Channel::holding(count, instep, &held[..0], &data[at..])
+        Channel::holding(count, instep, first, &held[..0], &data[at..])
     }
 
-    // Rules 1 to 5: the channel after a frame with this count, pointer and data; the packets that it completes are at the start of
-    // octets, their lengths at the start of lengths.
+    // Rules 1 to 5: the channel after a frame with this head and data; the packets that it completes are at the start of octets, their
+    // lengths and first numbers at the start of lengths and firsts.
     pub(crate) fn heed(
         self,
-        count: ChannelCount,
-        pointer: u8,
+        head: Head,
         data: &[u8],
         octets: &mut [u8],
         lengths: &mut [u16],
+        firsts: &mut [u32],
     ) -> Heeded
-        requires { ⌜ Asked self pointer (now «data») (lent (now octets) (now lengths)) ⌝ }
-        ensures { λ r. ⌜ ((a : ℕ) → Heeds (step a (view self) (record { count = count .0; pointer = pointer; octets = now («data» .entry) })) r (lent (now (octets .entry)) (now (lengths .entry))) (lent (now (octets .exit)) (now (lengths .exit)))) ⌝ }
+        requires { ⌜ Asked self (head .pointer) (now «data») (lent (now octets) (now lengths) (now firsts)) ⌝ }
+        ensures { λ r. ⌜ Heeds (step (head .arrival) (view self) (headed head (now («data» .entry)))) r
+            (lent (now (octets .entry)) (now (lengths .entry)) (now (firsts .entry)))
+            (lent (now (octets .exit)) (now (lengths .exit)) (now (firsts .exit))) ⌝ }
     {
         let held = self.held;
         let last = self.last;
+        let count = head.count;
         let lost = count.lost(self.heard, last);
         let mut k = self.length as usize;
         let mut instep = self.instep;
@@ -119,7 +140,16 @@ impl Channel {
             k = 0;
             instep = false;
         }
-        let followed = follow(count, pointer, instep, &held[..k], data, octets, lengths);
+        let followed = follow(
+            head,
+            instep,
+            self.first,
+            &held[..k],
+            data,
+            octets,
+            lengths,
+            firsts,
+        );
         let channel = followed.channel;
         Heeded {
             channel,
@@ -129,56 +159,78 @@ impl Channel {
     }
 }
 
-// Rules 2 to 5, for a channel with these held octets.
+// Rules 2 to 5, for a channel with these held octets, begun in the frame first.
 fn follow(
-    count: ChannelCount,
-    pointer: u8,
+    head: Head,
     instep: bool,
+    first: u32,
     held: &[u8],
     data: &[u8],
     octets: &mut [u8],
     lengths: &mut [u16],
+    firsts: &mut [u32],
 ) -> Followed
-    requires { ⌜ Followable instep (now held) pointer (now «data») (lent (now octets) (now lengths)) ⌝ }
-    ensures { λ r. ⌜ ((a : ℕ) → Follows (count .0) (follow a instep (heldOf (now (held .entry))) pointer (now («data» .entry))) r (lent (now (octets .entry)) (now (lengths .entry))) (lent (now (octets .exit)) (now (lengths .exit)))) ⌝ }
+    requires { ⌜ Followable instep (now held) (head .pointer) (now «data») (lent (now octets) (now lengths) (now firsts)) ⌝ }
+    ensures { λ r. ⌜ Follows (head .count .0)
+        (follow (head .arrival) instep (heldOf first (now (held .entry))) (head .pointer) (now («data» .entry))) r
+        (lent (now (octets .entry)) (now (lengths .entry)) (now (firsts .entry)))
+        (lent (now (octets .exit)) (now (lengths .exit)) (now (firsts .exit))) ⌝ }
 {
-    if pointer == Frame::RAW_DATA {
-        let channel = Channel::holding(count, instep, held, &data[..0]);
+    if head.pointer == Frame::RAW_DATA {
+        let count = head.count;
+        let channel = Channel::holding(count, instep, first, held, &data[..0]);
         return Followed {
             channel,
             packets: 0,
         };
     }
+    let begun = cutting::begun(head.arrival, first, held.len());
     let mut k = 0;
+    let mut from = head.arrival;
     let mut at = 0;
     let mut on = true;
-    if instep & cutting::fits(held, data, pointer) {
+    if instep & cutting::fits(held, data, head.pointer) {
         k = held.len();
-    } else if pointer == Frame::NONE_STARTS {
+        from = begun;
+    } else if head.pointer == Frame::NONE_STARTS {
         at = data.len();
         on = false;
     } else {
-        at = pointer as usize;
+        at = head.pointer as usize;
     }
-    take(count, on, &held[..k], &data[at..], octets, lengths)
+    take(
+        head,
+        on,
+        from,
+        &held[..k],
+        &data[at..],
+        octets,
+        lengths,
+        firsts,
+    )
 }
 
 // Rule 5: packets taken one after another out of the held octets and the data, and the rest held; `on` if a packet goes on or starts
-// there, else out of step.
+// there, else out of step. The first of them was begun in the frame first.
 fn take(
-    count: ChannelCount,
+    head: Head,
     on: bool,
+    first: u32,
     held: &[u8],
     data: &[u8],
     octets: &mut [u8],
     lengths: &mut [u16],
+    firsts: &mut [u32],
 ) -> Followed
-    requires { ⌜ Taken (now held) (now «data») (lent (now octets) (now lengths)) ⌝ }
-    ensures { λ r. ⌜ ((a : ℕ) → Follows (count .0) (inStepIf on (feed a (holding (heldOf (now (held .entry))) []) (now («data» .entry)))) r (lent (now (octets .entry)) (now (lengths .entry))) (lent (now (octets .exit)) (now (lengths .exit)))) ⌝ }
+    requires { ⌜ Taken (now held) (now «data») (lent (now octets) (now lengths) (now firsts)) ⌝ }
+    ensures { λ r. ⌜ Takes head on first (now (held .entry)) (now («data» .entry)) r
+        (lent (now (octets .entry)) (now (lengths .entry)) (now (firsts .entry)))
+        (lent (now (octets .exit)) (now (lengths .exit)) (now (firsts .exit))) ⌝ }
 {
-    let cut = cutting::cut(held, data, lengths);
+    let cut = cutting::cut(first, head.arrival, held, data, lengths, firsts);
     cutting::hand_out(held, data, cut.octets, octets);
-    let channel = Channel::left(count, on & cut.instep, held, data, cut.kept);
+    let count = head.count;
+    let channel = Channel::left(count, on & cut.instep, cut.first, held, data, cut.kept);
     let packets = cut.packets as u8;
     Followed { channel, packets }
 }

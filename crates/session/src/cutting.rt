@@ -6,18 +6,30 @@ ghost use lib.ListN.{length, take, drop};
 ghost use lib.Dec.{eqb};
 ghost use Rattle.octets.specs.Parts.{written};
 ghost use Rattle.octets.specs.Numbers.{at};
-ghost use Rattle.rules.specs.Channel.{lengthIn, fits, pointerTo};
+ghost use Rattle.rules.specs.Channel.{begunIn, lengthIn, fits, pointerTo};
 ghost use Rattle.session.specs.Asked.{Begun, Counted, Front};
 ghost use Rattle.session.specs.Promised.{Cuts};
 use frame::Frame;
 use packet::Packet;
 
-// The packets found: how many, how many octets they have, where what stays held begins, and in step or not afterwards.
+// The packets found: how many, how many octets they have, where what stays held begins, in which frame it was begun, and in step or
+// not afterwards.
 pub(crate) struct Found {
     pub packets: usize,
     pub octets: usize,
     pub kept: usize,
+    pub first: u32,
     pub instep: bool,
+}
+
+// The frame in which a packet was begun of which n octets are held: first, or with none held the frame arrival.
+pub(crate) fn begun(arrival: u32, first: u32, n: usize) -> u32
+    ensures { λ r. ⌜ r ≡ begunIn arrival first n ⌝ }
+{
+    if n == 0 {
+        return arrival;
+    }
+    first
 }
 
 // The octet at index i of held and data end to end.
@@ -72,12 +84,22 @@ pub(crate) fn fits(held: &[u8], data: &[u8], pointer: u8) -> bool
     points(pointer, whole - k, n)
 }
 
-// The packets that held and data end to end begin with; their lengths are at the start of lengths.
-pub(crate) fn cut(held: &[u8], data: &[u8], lengths: &mut [u16]) -> Found
-    requires { ⌜ Counted (now held) (now «data») (now lengths) ⌝ }
-    ensures { λ r. ⌜ Cuts (now (held .entry)) (now («data» .entry)) r (now (lengths .entry)) (now (lengths .exit)) ⌝ }
+// The packets that held, begun in the frame first, and data, of the frame arrival, end to end begin with; their lengths and first
+// numbers are at the start of lengths and firsts.
+pub(crate) fn cut(
+    first: u32,
+    arrival: u32,
+    held: &[u8],
+    data: &[u8],
+    lengths: &mut [u16],
+    firsts: &mut [u32],
+) -> Found
+    requires { ⌜ Counted (now held) (now «data») (now lengths) (now firsts) ⌝ }
+    ensures { λ r. ⌜ Cuts first arrival (now (held .entry)) (now («data» .entry)) r
+        (now (lengths .entry)) (now (firsts .entry)) (now (lengths .exit)) (now (firsts .exit)) ⌝ }
 {
     let all = held.len() + data.len();
+    let mut from = first;
     let mut packets = 0;
     let mut at = 0;
     while 6 <= all - at {
@@ -87,6 +109,7 @@ pub(crate) fn cut(held: &[u8], data: &[u8], lengths: &mut [u16]) -> Found
                 packets,
                 octets: at,
                 kept: all,
+                first: from,
                 instep: false,
             };
         }
@@ -95,10 +118,13 @@ pub(crate) fn cut(held: &[u8], data: &[u8], lengths: &mut [u16]) -> Found
                 packets,
                 octets: at,
                 kept: at,
+                first: from,
                 instep: true,
             };
         }
         lengths[packets] = n as u16;
+        firsts[packets] = from;
+        from = arrival;
         packets += 1;
         at += n;
     }
@@ -106,6 +132,7 @@ pub(crate) fn cut(held: &[u8], data: &[u8], lengths: &mut [u16]) -> Found
         packets,
         octets: at,
         kept: at,
+        first: from,
         instep: true,
     }
 }

@@ -5,6 +5,7 @@ ghost use Rattle.session.specs.Open.{opened, Opens};
 ghost use Rattle.session.specs.Lent.{lent, scant};
 ghost use Rattle.session.specs.Step.{Steps, TurnsAway};
 use answer::Refusal;
+use channels::Head;
 use counts::ChannelCount;
 use counts::Loss;
 use counts::MasterCount;
@@ -14,11 +15,13 @@ use frame::FrameRead;
 mod channels;
 mod cutting;
 
-// A virtual channel: its last count if a frame was heard, in step or not, and how many octets at the start of held are held.
+// A virtual channel: its last count if a frame was heard, in step or not, the arrival number of the frame with the first octet held, and
+// how many octets at the start of held are held.
 pub struct Channel {
     pub last: ChannelCount,
     pub heard: bool,
     pub instep: bool,
+    pub first: u32,
     pub length: u8,
     pub held: [u8; Channel::HELD],
 }
@@ -66,10 +69,12 @@ pub struct Stepped {
 }
 
 impl Session {
-    // What is lent to a step at least: octets for the packets, and entries for their lengths.
+    // What is lent to a step at least: octets for the packets, and entries for their lengths and first numbers.
     pub const OCTETS: usize = 501;
 
     pub const LENGTHS: usize = 16;
+
+    pub const FIRSTS: usize = 16;
 
     // The virtual channels, the most time octets of a frame, and the last arrival number.
     pub const CHANNELS: usize = 8;
@@ -128,13 +133,22 @@ impl Session {
     }
 
     // The session after a frame is offered; the packets that it completes are end to end at the start of octets, their lengths at the
-    // start of lengths. Else the first refusal of 1, 4, 3 and the frame's (10, 11, 120 to 123, 13 to 15), which use up an arrival
-    // number and tell the frame's octet. What is lent stays beyond that.
-    pub fn step(mut self, frame: &[u8], octets: &mut [u8], lengths: &mut [u16]) -> Stepped
-        ensures { λ r. ⌜ Steps self (now (frame .entry)) (lent (now (octets .entry)) (now (lengths .entry))) r (lent (now (octets .exit)) (now (lengths .exit))) ⌝ }
+    // start of lengths, and the arrival numbers of the frames with their first octets at the start of firsts. Else the first refusal
+    // of 1, 4, 3 and the frame's (10, 11, 120 to 123, 13 to 15), which use up an arrival number and tell the frame's octet. What is
+    // lent stays beyond that.
+    pub fn step(
+        mut self,
+        frame: &[u8],
+        octets: &mut [u8],
+        lengths: &mut [u16],
+        firsts: &mut [u32],
+    ) -> Stepped
+        ensures { λ r. ⌜ Steps self (now (frame .entry))
+            (lent (now (octets .entry)) (now (lengths .entry)) (now (firsts .entry))) r
+            (lent (now (octets .exit)) (now (lengths .exit)) (now (firsts .exit))) ⌝ }
     {
         let answer;
-        if scant(octets, lengths) {
+        if scant(octets, lengths, firsts) {
             answer = StepAnswer::Refused(Refusal::plain(answer::ROOM));
         } else if self.unsound() {
             answer = StepAnswer::Refused(Refusal::plain(answer::SESSION));
@@ -148,8 +162,14 @@ impl Session {
                 }
                 FrameRead::Frame(f) => {
                     let i = f.channel as usize;
+                    let count = f.count;
+                    let head = Head {
+                        arrival: self.arrival,
+                        count,
+                        pointer: f.pointer,
+                    };
                     let heeded = self.channels[i]
-                        .heed(f.count, f.pointer, f.data(frame), octets, lengths);
+                        .heed(head, f.data(frame), octets, lengths, firsts);
                     let channel = heeded.channel;
                     let last = self.master;
                     let master = f.master;
@@ -176,11 +196,13 @@ impl Session {
 
     // The session after a stretch that was refused before any frame could be read: the first of 1, 4, 3, else its own refusal,
     // which uses up an arrival number. The channels stay.
-    fn turn_away(mut self, own: u16, octets: &[u8], lengths: &[u16]) -> Stepped
-        ensures { λ r. ⌜ TurnsAway self own (lent (now (octets .entry)) (now (lengths .entry))) r (lent (now (octets .entry)) (now (lengths .entry))) ⌝ }
+    fn turn_away(mut self, own: u16, octets: &[u8], lengths: &[u16], firsts: &[u32]) -> Stepped
+        ensures { λ r. ⌜ TurnsAway self own
+            (lent (now (octets .entry)) (now (lengths .entry)) (now (firsts .entry))) r
+            (lent (now (octets .entry)) (now (lengths .entry)) (now (firsts .entry))) ⌝ }
     {
         let answer;
-        if scant(octets, lengths) {
+        if scant(octets, lengths, firsts) {
             answer = StepAnswer::Refused(Refusal::plain(answer::ROOM));
         } else if self.unsound() {
             answer = StepAnswer::Refused(Refusal::plain(answer::SESSION));
@@ -197,9 +219,11 @@ impl Session {
     }
 }
 
-// Whether refusal 1 holds of what is lent: under 501 octets, or under 16 lengths.
-fn scant(octets: &[u8], lengths: &[u16]) -> bool
-    ensures { λ r. ⌜ r ≡ scant (lent (now (octets .entry)) (now (lengths .entry))) ⌝ }
+// Whether refusal 1 holds of what is lent: under 501 octets, or under 16 lengths, or under 16 first numbers.
+fn scant(octets: &[u8], lengths: &[u16], firsts: &[u32]) -> bool
+    ensures { λ r. ⌜ r ≡ scant (lent (now (octets .entry)) (now (lengths .entry)) (now (firsts .entry))) ⌝ }
 {
-    (octets.len() < Session::OCTETS) | (lengths.len() < Session::LENGTHS)
+    (octets.len() < Session::OCTETS)
+        | (lengths.len() < Session::LENGTHS)
+        | (firsts.len() < Session::FIRSTS)
 }

@@ -14,7 +14,7 @@ use session::StepAnswer;
 // Whether a channel is fresh, its whole array too.
 fn fresh(c: Channel) -> bool {
     let held = c.held;
-    let idle = !c.heard & !c.instep & (c.last.0 == 0) & (c.length == 0);
+    let idle = !c.heard & !c.instep & (c.last.0 == 0) & (c.first == 0) & (c.length == 0);
     idle & (text::used(&held, 0) == 0)
 }
 
@@ -24,12 +24,13 @@ fn channel(i: usize, c: Channel) {
         return;
     }
     text::tell(
-        b" | channel # heard # last # instep # length # held ",
+        b" | channel # heard # last # instep # first # length # held ",
         &[
             i as u64,
             c.heard as u64,
             c.last.0 as u64,
             c.instep as u64,
+            c.first as u64,
             c.length as u64,
         ],
     );
@@ -76,6 +77,7 @@ fn channel_of(c: &[u8]) -> Channel {
         last: ChannelCount(input::octet(c, places::LAST)),
         heard: input::octet(c, places::CHANNEL_HEARD) == 1,
         instep: input::octet(c, places::INSTEP) == 1,
+        first: input::four(c, places::BEGUN),
         length: input::octet(c, places::HOLDS),
         held,
     }
@@ -111,8 +113,14 @@ fn loss(name: &[u8], l: Loss) {
     }
 }
 
-pub fn step(c: &[u8], s: Session, octets: &mut [u8], lengths: &mut [u16]) -> Session {
-    let stepped = s.step(input::block(c, places::INPUT), octets, lengths);
+pub fn step(
+    c: &[u8],
+    s: Session,
+    octets: &mut [u8],
+    lengths: &mut [u16],
+    firsts: &mut [u32],
+) -> Session {
+    let stepped = s.step(input::block(c, places::INPUT), octets, lengths, firsts);
     let answer = stepped.answer;
     let next = stepped.session;
     match answer {
@@ -130,6 +138,7 @@ pub fn step(c: &[u8], s: Session, octets: &mut [u8], lengths: &mut [u16]) -> Ses
         StepAnswer::Refused(r) => frames::refused(r),
     }
     text::words(b" lengths", lengths, 61166);
+    text::fours(b" firsts", firsts, 61166);
     text::lent(b" octets ", octets, 238);
     print(next);
     next

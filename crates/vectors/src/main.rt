@@ -34,7 +34,7 @@ fn run(c: &[u8], s: Session, octets: &mut [u8], words: &mut [u16], fours: &mut [
     match input::octet(c, places::KIND) {
         kinds::SESSION_OPEN => session_cases::open(c),
         kinds::SESSION => session_cases::given(c),
-        kinds::SESSION_STEP => session_cases::step(c, s, octets, words),
+        kinds::SESSION_STEP => session_cases::step(c, s, octets, words, fours),
         _ => {
             format(c, octets, words, fours);
             s

@@ -15,10 +15,10 @@ turned-away-requires : tie.Need-turned-away-requires
 turned-away-requires c κs = some-room (now (c .before .before .before .before .before .before .before .before .args .out)) (c .before .before .before .before .before .before .before .before .args .at) (c .before .before .before .before .before .no-room .ensures) (c .before .before .before .before .if1 .left)
 
 returns-2 : tie.Need-returns-2
-returns-2 c = line-put (now (c .before .before .before .before .before .before .before .before .before .before .before .args .out)) (c .before .before .before .before .before .before .before .before .before .before .before .args .at) (c .before .before .before .before .before .before .before .before .no-room .ensures) (c .before .before .before .before .before .before .before .if1 .left) (taken-line _ _ (c .before .before .before .before .before .read .given .1) (c .before .before .taken .ensures))
+returns-2 c = line-put (now (c .before .before .before .before .before .before .before .before .before .before .before .args .out)) (c .before .before .before .before .before .before .before .before .before .before .before .args .at) (c .before .before .before .before .before .before .before .before .no-room .ensures) (c .before .before .before .before .before .before .before .if1 .left) (taken-line _ _ _ (c .before .before .before .before .before .read .given .1) (c .before .before .taken .ensures))
 
 returns-3 : tie.Need-returns-3
-returns-3 c = line-put (now (c .before .before .before .before .before .before .before .before .before .before .before .args .out)) (c .before .before .before .before .before .before .before .before .before .before .before .args .at) (c .before .before .before .before .before .before .before .before .no-room .ensures) (c .before .before .before .before .before .before .before .if1 .left) (turned-away-line _ _ (c .before .before .before .before .before .read2 .given .1) (c .before .before .turned-away .ensures))
+returns-3 c = line-put (now (c .before .before .before .before .before .before .before .before .before .before .before .args .out)) (c .before .before .before .before .before .before .before .before .before .before .before .args .at) (c .before .before .before .before .before .before .before .before .no-room .ensures) (c .before .before .before .before .before .before .before .if1 .left) (turned-away-line _ _ _ (c .before .before .before .before .before .read2 .given .1) (c .before .before .turned-away .ensures))
 
 pub packet-line-spec : {M : Type 1} → statement M
 packet-line-spec =

@@ -11,29 +11,35 @@ use borrow.Author.Needs.{needs}
 use Rattle.listing.proofs.frame_lines.Statement.{statement}
 use Rattle.listing.proofs.frame_lines.Tie as tie
 
+abbrev start : tie.After-answer-line → tie.Start
+start c = c .before .before .before .before .before .before
+
 -- how many packets there are
-many : (c : tie.After-wide) → c .wide .result ≡ told (c .before .before .before .before .before .before .before .before .before .before .before .before .args .answer) .fields .packets
+many : (c : tie.After-wide) → c .wide .result ≡ told (start (c .before .before .before .before .before .before .before) .args .answer) .fields .packets
 many c = told-packets (c .before .before .before .answer .given .1) (c .wide .ensures)
 
 packet-lines-requires : tie.Need-packet-lines-requires
 packet-lines-requires c κs =
     let l = c .before .before .before .before .before .before .before .answer-line in
-    let s = c .before .before .before .before .before .before .before .before .before .before .before .before in
+    let s = start (c .before .before .before .before .before .before .before) in
+    let a = s .args in
     let few : c .wide .result ≤ 16 = omega (arith, many c, s .pre .1 .0) in
-    (omega (arith, line-laid (s .args .answer) (s .args .arrival) (now (s .args .octets)) (now (s .args .lengths)) (omega (arith, s .pre .0)) (l .ensures) .near, l .kept .0, s .pre .0), (few, (s .pre .1 .1 .0, subst (λ (n : ℕ). total (take n (now (s .args .lengths))) ≤ length (now (s .args .octets))) (sym (many c)) (s .pre .1 .1 .1))))
+    (omega (arith, line-laid (a .answer) (a .arrival) (now (a .octets)) (now (a .lengths)) (now (a .firsts)) (omega (arith, s .pre .0)) (l .ensures) .near, l .kept .0, s .pre .0), (few, (s .pre .1 .1 .0, subst (λ (n : ℕ). total (take n (now (a .lengths))) ≤ length (now (a .octets))) (sym (many c)) (s .pre .1 .1 .1))))
 
 returns : tie.Need-returns
 returns c =
     let w = c .before .before .before in
     let l = w .before .before .before .before .before .before .before .answer-line in
-    let s = w .before .before .before .before .before .before .before .before .before .before .before .before in
-    with-packets (s .args .answer) (s .args .arrival) (now (s .args .octets)) (now (s .args .lengths)) (omega (arith, s .pre .0)) (l .ensures) (many w) (omega (arith, many w, s .pre .1 .0)) (c .before .before .packet-lines .ensures)
+    let s = start (w .before .before .before .before .before .before .before) in
+    let a = s .args in
+    with-packets (a .answer) (a .arrival) (now (a .octets)) (now (a .lengths)) (now (a .firsts)) (omega (arith, s .pre .0)) (l .ensures) (many w) (omega (arith, many w, s .pre .1 .0)) (c .before .before .packet-lines .ensures)
 
 returns-2 : tie.Need-returns-2
 returns-2 c =
     let l = c .before .before .before .before .answer-line in
-    let s = c .before .before .before .before .before .before .before .before .before in
-    without-packets (s .args .answer) (s .args .arrival) (now (s .args .octets)) (now (s .args .lengths)) (omega (arith, s .pre .0)) (l .ensures) (c .enum-told .given .1)
+    let s = start (c .before .before .before .before) in
+    let a = s .args in
+    without-packets (a .answer) (a .arrival) (now (a .octets)) (now (a .lengths)) (now (a .firsts)) (omega (arith, s .pre .0)) (l .ensures) (c .enum-told .given .1)
 
 pub frame-lines-spec : {M : Type 1} → statement M
 frame-lines-spec =

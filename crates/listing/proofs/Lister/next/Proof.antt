@@ -10,15 +10,15 @@ use Rattle.listing.proofs.Lister.next.Statement.{statement}
 use Rattle.listing.proofs.Lister.next.Tie as tie
 
 abbrev Inv-loop : tie.InvT-loop
-Inv-loop window out₀ octets₀ lengths₀ reader₀ session₀ at₀ size₀ out octets lengths reader session at size =
-    Sofar reader₀ session₀ window out₀ out reader session at size × (length octets ≡ 501) × (length lengths ≡ 16)
+Inv-loop window out₀ octets₀ lengths₀ firsts₀ reader₀ session₀ at₀ size₀ out octets lengths firsts reader session at size =
+    Sofar reader₀ session₀ window out₀ out reader session at size × (length octets ≡ 501) × (length lengths ≡ 16) × (length firsts ≡ 16)
 
 abbrev μ-loop : tie.MeasureT-loop
-μ-loop window out₀ octets₀ lengths₀ reader₀ session₀ at₀ size₀ out octets lengths reader session at size =
+μ-loop window out₀ octets₀ lengths₀ firsts₀ reader₀ session₀ at₀ size₀ out octets lengths firsts reader session at size =
     length window - at
 
 loop-holds : tie.Need-loop-holds Inv-loop μ-loop
-loop-holds c = (none-yet _ _ _ _, search needs, search needs)
+loop-holds c = (none-yet _ _ _ _, search needs, search needs, search needs)
 
 add-behind : tie.Need-add-behind Inv-loop μ-loop
 add-behind c = omega (arith, turn-inside (c .before .before .before .before .loop .inv .0) (c .before .scan .ensures))
@@ -39,19 +39,19 @@ loop-less : tie.Need-loop-less Inv-loop μ-loop
 loop-less c = less-header (c .before .before .before .before .before .before .before .before .before .before .before .before .before .loop .inv .0) (c .before .before .before .before .before .before .before .before .before .before .scan .ensures) (c .before .before .before .before .before .before .before .taken2 .given .1)
 
 loop-again : tie.Need-loop-again Inv-loop μ-loop
-loop-again c = (on-header (c .before .before .before .before .before .before .before .before .before .before .before .before .before .loop .inv .0) (c .before .before .before .before .before .before .before .before .before .before .scan .ensures) (c .before .before .before .before .before .before .before .before .before .before .before .before .loop-test .taken) (c .before .before .before .before .before .before .before .taken2 .given .1) (c .before .before .header-line .ensures) (c .before .before .header-line .kept .0) (c .before .before .before .before .before .«open» .ensures .session), c .before .before .before .before .before .before .before .before .before .before .before .before .before .loop .inv .1, c .before .before .before .before .before .before .before .before .before .before .before .before .before .loop .inv .2)
+loop-again c = (on-header (c .before .before .before .before .before .before .before .before .before .before .before .before .before .loop .inv .0) (c .before .before .before .before .before .before .before .before .before .before .scan .ensures) (c .before .before .before .before .before .before .before .before .before .before .before .before .loop-test .taken) (c .before .before .before .before .before .before .before .taken2 .given .1) (c .before .before .header-line .ensures) (c .before .before .header-line .kept .0) (c .before .before .before .before .before .«open» .ensures .session), c .before .before .before .before .before .before .before .before .before .before .before .before .before .loop .inv .1, c .before .before .before .before .before .before .before .before .before .before .before .before .before .loop .inv .2, c .before .before .before .before .before .before .before .before .before .before .before .before .before .loop .inv .3)
 
 loop-less-2 : tie.Need-loop-less-2 Inv-loop μ-loop
 loop-less-2 c = less-nothing (c .before .before .before .before .before .before .loop .inv .0) (c .before .before .before .scan .ensures) (c .enum-told3 .given .1)
 
 loop-again-2 : tie.Need-loop-again-2 Inv-loop μ-loop
-loop-again-2 c = (on-nothing (c .before .before .before .before .before .before .loop .inv .0) (c .before .before .before .scan .ensures) (c .before .before .before .before .before .loop-test .taken) (c .enum-told3 .given .1), c .before .before .before .before .before .before .loop .inv .1, c .before .before .before .before .before .before .loop .inv .2)
+loop-again-2 c = (on-nothing (c .before .before .before .before .before .before .loop .inv .0) (c .before .before .before .scan .ensures) (c .before .before .before .before .before .loop-test .taken) (c .enum-told3 .given .1), c .before .before .before .before .before .before .loop .inv .1, c .before .before .before .before .before .before .loop .inv .2, c .before .before .before .before .before .before .loop .inv .3)
 
-add-first : tie.Need-add-first Inv-loop μ-loop
-add-first c = omega (arith, frame-from (c .before .before .before .before .before .before .before .loop .inv .0) (c .before .before .before .before .scan .ensures) (c .before .taken3 .given .1), frame-to (c .before .before .before .before .before .before .before .loop .inv .0) (c .before .before .before .before .scan .ensures) (c .before .taken3 .given .1))
+add-start : tie.Need-add-start Inv-loop μ-loop
+add-start c = omega (arith, frame-from (c .before .before .before .before .before .before .before .loop .inv .0) (c .before .before .before .before .scan .ensures) (c .before .taken3 .given .1), frame-to (c .before .before .before .before .before .before .before .loop .inv .0) (c .before .before .before .before .scan .ensures) (c .before .taken3 .given .1))
 
-add-last : tie.Need-add-last Inv-loop μ-loop
-add-last c = omega (arith, frame-from (c .before .before .before .before .before .before .before .loop .inv .0) (c .before .before .before .before .scan .ensures) (c .before .taken3 .given .1), frame-to (c .before .before .before .before .before .before .before .loop .inv .0) (c .before .before .before .before .scan .ensures) (c .before .taken3 .given .1))
+add-end : tie.Need-add-end Inv-loop μ-loop
+add-end c = omega (arith, frame-from (c .before .before .before .before .before .before .before .loop .inv .0) (c .before .before .before .before .scan .ensures) (c .before .taken3 .given .1), frame-to (c .before .before .before .before .before .before .before .loop .inv .0) (c .before .before .before .before .scan .ensures) (c .before .taken3 .given .1))
 
 sub-step : tie.Need-sub-step Inv-loop μ-loop
 sub-step c = omega (arith, frame-from (c .before .before .before .before .before .before .before .loop .inv .0) (c .before .before .before .before .scan .ensures) (c .before .taken3 .given .1), frame-to (c .before .before .before .before .before .before .before .loop .inv .0) (c .before .before .before .before .scan .ensures) (c .before .taken3 .given .1))
@@ -62,18 +62,29 @@ part-step-start c = omega (arith, frame-from (c .before .before .before .before 
 part-step-end : tie.Need-part-step-end Inv-loop μ-loop
 part-step-end c = omega (arith, frame-from (c .before .before .before .before .before .before .before .loop .inv .0) (c .before .before .before .before .scan .ensures) (c .before .taken3 .given .1), frame-to (c .before .before .before .before .before .before .before .loop .inv .0) (c .before .before .before .before .scan .ensures) (c .before .taken3 .given .1))
 
+-- what the step left, of which there were 501, 16 and 16
 frame-lines-requires : tie.Need-frame-lines-requires Inv-loop μ-loop
-frame-lines-requires c κs = (fits (c .before .before .before .before .before .before .before .before .before .before .before .before .before .before .before .before .before .loop .inv .0) (c .before .before .before .before .before .before .before .before .before .before .before .before .before .before .scan .ensures) (c .before .before .before .before .before .before .before .before .before .before .before .before .before .before .before .before .loop-test .taken), (few-packets (c .before .before .before .before .before .before .before .before .before .before .before .before .before .before .before .before .before .loop .session) _ (c .before .before .before .before .before .before .before .before .before .before .before .before .before .before .before .before .before .loop .inv .1) (c .before .before .before .before .before .before .before .before .before .before .before .before .before .before .before .before .before .loop .inv .2) (c .before .before .before .before .before .before .step .ensures), (search needs, packets-there (c .before .before .before .before .before .before .before .before .before .before .before .before .before .before .before .before .before .loop .session) _ (c .before .before .before .before .before .before .before .before .before .before .before .before .before .before .before .before .before .loop .inv .1) (c .before .before .before .before .before .before .before .before .before .before .before .before .before .before .before .before .before .loop .inv .2) (c .before .before .before .before .before .before .step .ensures))))
+frame-lines-requires c κs =
+    let l = c .before .before .before .before .before .before .before .before .before .before .before .before .before .before .before .before .before .before .before .before .loop in
+    let n = l .inv in
+    let s = c .before .before .before .before .before .before .before .before .step .ensures in
+    (fits (n .0) (c .before .before .before .before .before .before .before .before .before .before .before .before .before .before .before .before .before .scan .ensures) (c .before .before .before .before .before .before .before .before .before .before .before .before .before .before .before .before .before .before .before .loop-test .taken), (few-packets (l .session) _ (n .1) (n .2) (n .3) s, ((search needs, search needs), packets-there (l .session) _ (n .1) (n .2) (n .3) s)))
 
 loop-less-3 : tie.Need-loop-less-3 Inv-loop μ-loop
-loop-less-3 c = less-frame (c .before .before .before .before .before .before .before .before .before .before .before .before .before .before .before .before .before .before .before .before .loop .inv .0) (c .before .before .before .before .before .before .before .before .before .before .before .before .before .before .before .before .before .scan .ensures) (c .before .before .before .before .before .before .before .before .before .before .before .before .before .before .taken3 .given .1)
+loop-less-3 c = less-frame (c .before .before .before .before .before .before .before .before .before .before .before .before .before .before .before .before .before .before .before .before .before .before .before .loop .inv .0) (c .before .before .before .before .before .before .before .before .before .before .before .before .before .before .before .before .before .before .before .before .scan .ensures) (c .before .before .before .before .before .before .before .before .before .before .before .before .before .before .before .before .before .taken3 .given .1)
 
 loop-again-3 : tie.Need-loop-again-3 Inv-loop μ-loop
-loop-again-3 c = (
-  on-frame (c .before .before .before .before .before .before .before .before .before .before .before .before .before .before .before .before .before .before .before .before .loop .inv .0) (c .before .before .before .before .before .before .before .before .before .before .before .before .before .before .before .before .before .scan .ensures) (c .before .before .before .before .before .before .before .before .before .before .before .before .before .before .before .before .before .before .before .loop-test .taken) (c .before .before .before .before .before .before .before .before .before .before .before .before .before .before .taken3 .given .1) (c .before .before .frame-lines .ensures) (c .before .before .frame-lines .kept .0) (frame-text (c .before .before .before .before .before .before .before .before .before .before .before .before .before .before .before .before .before .before .before .before .loop .session) _ (c .before .before .before .before .before .before .before .before .before .before .before .before .before .before .before .before .before .before .before .before .loop .inv .1) (c .before .before .before .before .before .before .before .before .before .before .before .before .before .before .before .before .before .before .before .before .loop .inv .2) (c .before .before .before .before .before .before .before .before .before .step .ensures)) (stepped-session (c .before .before .before .before .before .before .before .before .before .before .before .before .before .before .before .before .before .before .before .before .loop .session) _ (c .before .before .before .before .before .before .before .before .before .before .before .before .before .before .before .before .before .before .before .before .loop .inv .1) (c .before .before .before .before .before .before .before .before .before .before .before .before .before .before .before .before .before .before .before .before .loop .inv .2) (c .before .before .before .before .before .before .before .before .before .step .ensures)),
-  search needs,
-  search needs,
-)
+loop-again-3 c =
+    let l = c .before .before .before .before .before .before .before .before .before .before .before .before .before .before .before .before .before .before .before .before .before .before .before .loop in
+    let n = l .inv in
+    let s = c .before .before .before .before .before .before .before .before .before .before .before .step .ensures in
+    let f = c .before .before .frame-lines in (
+      on-frame (n .0) (c .before .before .before .before .before .before .before .before .before .before .before .before .before .before .before .before .before .before .before .before .scan .ensures) (c .before .before .before .before .before .before .before .before .before .before .before .before .before .before .before .before .before .before .before .before .before .before .loop-test .taken) (c .before .before .before .before .before .before .before .before .before .before .before .before .before .before .before .before .before .taken3 .given .1) (f .ensures) (f .kept .0)
+          (frame-text (l .session) _ (n .1) (n .2) (n .3) s) (stepped-session (l .session) _ (n .1) (n .2) (n .3) s),
+      search needs,
+      search needs,
+      search needs,
+    )
 
 returns-4 : tie.Need-returns-4 Inv-loop μ-loop
 returns-4 c = stop-full (c .before .before .loop .inv .0) (c .before .loop-test .left) (c .stopped4 .ensures)
@@ -87,6 +98,6 @@ next-spec =
     (λ c. search needs) (λ c κs. search needs) (λ c. search needs) returns-2 (λ c. search needs)
     (λ c κs. search needs) (λ c κs. search needs) (λ c. search needs) returns-3 (λ c. search needs) cast-open
     (λ c κs. search needs) (λ c κs. search needs) loop-less loop-again (λ c. search needs) loop-less-2 loop-again-2
-    (λ c. search needs) add-first add-last sub-step part-step-start part-step-end (λ c. search needs)
-    (λ c. search needs) (λ c κs. search needs) (λ c. search needs) (λ c. search needs) frame-lines-requires
+    (λ c. search needs) add-start add-end sub-step part-step-start part-step-end (λ c. search needs)
+    (λ c. search needs) (λ c. search needs) (λ c κs. search needs) (λ c. search needs) (λ c. search needs) (λ c. search needs) frame-lines-requires
     loop-less-3 loop-again-3 (λ c κs. search needs) (λ c. search needs) returns-4)

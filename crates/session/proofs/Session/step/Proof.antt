@@ -21,12 +21,12 @@ use Rattle.session.proofs.Session.step.Statement.{statement}
 use Rattle.session.proofs.Session.step.Tie as tie
 
 abbrev room : tie.Start → Lent
-room c = lent (c .args .octets .now) (c .args .lengths .now)
+room c = lent (c .args .octets .now) (c .args .lengths .now) (c .args .firsts .now)
 
 -- ---- the gate
 
 abbrev begun : tie.After-scant → tie.Start
-begun c = c .before .before .before .before .before .before
+begun c = c .before .before .before .before .before .before .before .before
 
 returns : tie.Need-returns
 unfolding outcome
@@ -105,8 +105,8 @@ one c = omega (arith, eight (passed c), low c)
 
 heed-requires : tie.Need-heed-requires
 heed-requires c κs =
-    let d = c .before .before .«data» in
-    let w = c .before .before .before .before in
+    let d = c .before .before .before .«data» in
+    let w = c .before .before .before .before .before .before in
     let f = w .before .before .f .given .0 .0 in
     let p = admitted (passed w) in
     let a = start (passed w) .args in
@@ -114,22 +114,26 @@ heed-requires c κs =
     (sound-at (a .t1) (f .channel) _ (one w) (p .sound))
 
 abbrev known : tie.After-lost → tie.After-struct-known
-known c = c .before .before .before .before .before .before .before .before .before .before .before .before .before
+known c = c .before .before .before .before .before .before .before .before .before .before .before .before .before .before .before .before .before
+
+-- what was lent, as the channel left it
+abbrev left : tie.After-heed → Lent
+left c = lent (c .heed .last .1 .1 .1 .0) (c .heed .last .1 .1 .1 .1 .0) (c .heed .last .1 .1 .1 .1 .1 .0)
 
 returns-5 : tie.Need-returns-5
 unfolding outcome
 returns-5 c =
-    let h = c .before .before .before .before .before .before .before .before .heed in
-    let d = c .before .before .before .before .before .before .before .before .before .before .before .«data» in
+    let h = c .before .before .before .before .before .before .before .before .before .before in
+    let d = c .before .before .before .before .before .before .before .before .before .before .before .before .before .before .«data» in
     let w = known c in
     let f = w .before .before .f .given in
     let e = passed w in
     let a = start e .args in
-    gives e _ _ (lent (h .last .1 .1 .1 .1 .0) (h .last .1 .1 .1 .1 .1 .0))
-    (read (counted (a .t1)) (a .frame .now) (room (start e)) (f .0 .0) (d .result .now) _ (lent (h .last .1 .1 .1 .1 .0) (h .last .1 .1 .1 .1 .1 .0))
+    gives e _ _ (left h)
+    (read (counted (a .t1)) (a .frame .now) (room (start e)) (f .0 .0) (d .result .now) _ (left h)
     (sym (ap told (f .1)) ∙ w .before .before .before .before .read .ensures) (d .ensures)
     (gives-accepted (counted (a .t1)) (f .0 .0) (d .result .now) (c .lost .result) _ (within-list (a .t1 .channels) (f .0 .0 .channel) _ fresh (one w))
-    (c .lost .ensures) (h .result) (room (start e)) (lent (h .last .1 .1 .1 .1 .0) (h .last .1 .1 .1 .1 .1 .0)) (h .ensures (counted (a .t1) .arrival))))
+    (c .lost .ensures) (h .heed .result) (room (start e)) (left h) (h .heed .ensures)))
 
 pub step-spec : {M : Type 1} → statement M
 step-spec =
@@ -137,6 +141,7 @@ step-spec =
     (tie.spec
     (λ c κs. search needs) (λ c κs. search needs) (λ c κs. search needs) (λ c κs. search needs) (λ c κs. search needs) add-self
     (λ c κs. search needs) (λ c. search needs) (λ c. search needs)
-    (λ c. search needs) (λ c. omega (arith, low c)) low (λ c κs. search needs) heed-requires (λ c κs. search needs) (λ c. omega (arith, low (known c))) (λ c. low (known c))
-    (λ c. search needs) (λ c. search needs) returns (λ c. search needs) (λ c. search needs) returns-2 (λ c. search needs) (λ c. search needs) returns-3
-    (λ c. search needs) (λ c. search needs) returns-4 (λ c. search needs) (λ c. search needs) returns-5)
+    (λ c. search needs) (λ c. omega (arith, low (c .before))) (λ c. low (c .before)) (λ c κs. search needs) heed-requires (λ c κs. search needs) (λ c. omega (arith, low (known c))) (λ c. low (known c))
+    (λ c. search needs) (λ c. search needs) (λ c. search needs) returns (λ c. search needs) (λ c. search needs) (λ c. search needs) returns-2
+    (λ c. search needs) (λ c. search needs) (λ c. search needs) returns-3 (λ c. search needs) (λ c. search needs) (λ c. search needs) returns-4
+    (λ c. search needs) (λ c. search needs) (λ c. search needs) returns-5)

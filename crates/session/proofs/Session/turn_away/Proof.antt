@@ -11,10 +11,10 @@ use Rattle.session.proofs.Session.turn_away.Statement.{statement}
 use Rattle.session.proofs.Session.turn_away.Tie as tie
 
 abbrev room : tie.Start → Lent
-room c = lent (c .args .octets .now) (c .args .lengths .now)
+room c = lent (c .args .octets .now) (c .args .lengths .now) (c .args .firsts .now)
 
 abbrev begun : tie.After-scant → tie.Start
-begun c = c .before .before .before
+begun c = c .before .before .before .before
 
 returns : tie.Need-returns
 unfolding turnedAway

@@ -15,54 +15,64 @@ use Rattle.session.proofs.channels.follow.Tie as tie
 
 -- what is held begins a packet
 begun : (c : tie.Start) → Begun (c .args .held .now) (c .args .«data» .now)
-begun c = let a = c .args in to-fit (a .instep) (a .held .now) (a .pointer) (a .«data» .now) _ (c .pre)
+begun c = let a = c .args in to-fit (a .instep) (a .first) (a .held .now) (a .head .arrival) (a .head .pointer) (a .«data» .now) _ (c .pre)
 
 holding-requires : tie.Need-holding-requires
 holding-requires c κs =
-    let a = c .before .before .before .before .before .before .args in
-    let s = begun (c .before .before .before .before .before .before) .short in
+    let a = c .before .before .before .before .before .before .before .before .before .args in
+    let s = begun (c .before .before .before .before .before .before .before .before .before) .short in
     let g : length (a .held .now) + 0 ≤ 250 = omega arith in
     g
 
 returns : tie.Need-returns
-returns c n =
-    let a = c .before .before .before .before .before .before .before .args in
-    follows-raw (a .instep) (a .held .now) (a .pointer) (a .«data» .now) n (a .count .0) _ (c .holding .result)
-    (c .before .before .if1 .taken) (c .holding .ensures)
+returns c =
+    let a = c .before .before .before .before .before .before .before .before .before .before .args in
+    follows-raw (a .instep) (a .first) (a .held .now) (a .head .arrival) (a .head .pointer) (a .«data» .now) (a .head .count .0) _ (c .holding .result)
+    (c .before .before .before .if1 .taken) (c .holding .ensures)
 
 -- the test is the definition's
 tested : (i r s b : Bool) → r ≡ s → (i && r) ≡ b → (i && s) ≡ b
 tested i r s b e h = ap (λ (x : Bool). i && x) (sym e) ∙ h
 
+abbrev start : tie.Joined2 → tie.Start
+start c = c .before .before .before .before .before .before .before .before .before .before
+
 -- what rule 5 is given, whichever way it came
-given : (c : tie.Joined2) → Parts (c .before .before .before .before .before .before .before .args .instep) (c .before .before .before .before .before .before .before .args .held .now) (c .before .before .before .before .before .before .before .args .pointer) (c .before .before .before .before .before .before .before .args .«data» .now) (lent (c .before .before .before .before .before .before .before .args .octets .now) (c .before .before .before .before .before .before .before .args .lengths .now)) (c .if2 .k) (c .if2 .at) (c .if2 .on)
+abbrev Given : tie.Joined2 → Type 0
+Given c =
+    let a = start c .args in
+    Parts (a .instep) (a .first) (a .held .now) (a .head .arrival) (a .head .pointer) (a .«data» .now)
+    (lent (a .octets .now) (a .lengths .now) (a .firsts .now)) (c .if2 .k) (c .if2 .from) (c .if2 .at) (c .if2 .on)
+
+given : (c : tie.Joined2) → Given c
 given c =
-    let s = c .before .before .before .before .before .before .before in
+    let s = start c in
     let a = s .args in
     let t = c .before .fits2 in
-    let n = c .before .before .if1 .left in
+    let n = c .before .before .before .if1 .left in
     ⊎-elim
-    (λ w. parts-all (a .instep) (a .held .now) (a .pointer) (a .«data» .now) _ (s .pre) (c .if2 .k) (c .if2 .at) (c .if2 .on) n
-    (tested (a .instep) (t .result) _ true (t .ensures) (w .0 .taken)) (w .1) (w .2) (w .3))
+    (λ w. parts-all (a .instep) (a .first) (a .held .now) (a .head .arrival) (a .head .pointer) (a .«data» .now) _ (s .pre) (c .if2 .k) (c .if2 .from) (c .if2 .at) (c .if2 .on) n
+    (tested (a .instep) (t .result) _ true (t .ensures) (w .0 .taken)) (w .1) (w .2 ∙ c .before .before .begun .ensures) (w .3) (w .4))
     (⊎-elim
-    (λ w. parts-none (a .instep) (a .held .now) (a .pointer) (a .«data» .now) _ (s .pre) (c .if2 .k) (c .if2 .at) (c .if2 .on) n
-    (tested (a .instep) (t .result) _ false (t .ensures) (w .0 .left)) (w .2) (w .1 .taken) (w .3) (w .4))
-    (λ w. parts-entered (a .instep) (a .held .now) (a .pointer) (a .«data» .now) _ (s .pre) (c .if2 .k) (c .if2 .at) (c .if2 .on) n
-    (tested (a .instep) (t .result) _ false (t .ensures) (w .0 .left)) (w .2) (w .1 .left) (w .3) (w .4)))
+    (λ w. parts-none (a .instep) (a .first) (a .held .now) (a .head .arrival) (a .head .pointer) (a .«data» .now) _ (s .pre) (c .if2 .k) (c .if2 .from) (c .if2 .at) (c .if2 .on) n
+    (tested (a .instep) (t .result) _ false (t .ensures) (w .0 .left)) (w .3) (w .4) (w .2 .taken) (w .5) (w .6))
+    (λ w. parts-entered (a .instep) (a .first) (a .held .now) (a .head .arrival) (a .head .pointer) (a .«data» .now) _ (s .pre) (c .if2 .k) (c .if2 .from) (c .if2 .at) (c .if2 .on) n
+    (tested (a .instep) (t .result) _ false (t .ensures) (w .0 .left)) (w .4) (w .5) (w .2 .left) (w .6) (w .7)))
     (c .if2 .came)
 
 returns-2 : tie.Need-returns-2
-returns-2 c n =
-    let t = c .before .before .before .before .take in
-    let j = c .before .before .before .before .before .before .before .before .before .before in
-    let a = j .before .before .before .before .before .before .before .args in
-    follows-taken (a .instep) (a .held .now) (a .pointer) (a .«data» .now) n (a .count .0) _ _
-    (j .if2 .k) (j .if2 .at) (j .if2 .on) (t .result) (given j) (t .ensures n)
+returns-2 c =
+    let t = c .before .before .before .before .before .before .take in
+    let j = c .before .before .before .before .before .before .before .before .before .before .before .before .before in
+    let a = start j .args in
+    follows-taken (a .head) (a .instep) (a .first) (a .held .now) (a .«data» .now) (lent (a .octets .now) (a .lengths .now) (a .firsts .now))
+    (lent (t .last .1 .1 .1 .1 .1 .0) (t .last .1 .1 .1 .1 .1 .1 .0) (t .last .1 .1 .1 .1 .1 .1 .1 .0))
+    (j .if2 .k) (j .if2 .from) (j .if2 .at) (j .if2 .on) (t .result) (given j) (t .ensures)
 
 pub follow-spec : {M : Type 1} → statement M
 follow-spec =
     tie.close
     (tie.spec
-    (λ c. search needs) holding-requires returns (λ c κs. begun (c .before .before .before .before .before))
+    (λ c. search needs) holding-requires returns (λ c κs. search needs) (λ c κs. begun (c .before .before .before .before .before .before .before .before)) (λ c. search needs)
     (λ c. sym (length-take-le _ _ (given (c .before) .front))) (λ c. given (c .before .before) .back) (λ c. given (c .before .before) .back) (λ c. search needs)
-    (λ c κs. given (c .before .before .before .before .before) .taken) (λ c. search needs) (λ c. search needs) returns-2)
+    (λ c κs. given (c .before .before .before .before .before .before) .taken) (λ c. search needs) (λ c. search needs) (λ c. search needs) returns-2)
