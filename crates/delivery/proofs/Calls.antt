@@ -51,7 +51,12 @@ read-back a n ps l u e =
 abbrev pub said : ℕ → Told Accepted → Lent → List Report
 said v a l =
     when (a .accepted && eqb (a .fields .channel) v)
-    (record { arrival = a .fields .arrival; lost = a .fields .lost; packets = readOut (a .fields .arrival) (a .fields .packets) l })
+    (record {
+      arrival = a .fields .arrival;
+      lost = a .fields .lost;
+      headers = a .fields .headers;
+      packets = readOut (a .fields .arrival) (a .fields .packets) l;
+    })
 
 module _ (v : ℕ) (c : Call) (o : Outcome) (g : Gives o (c .result) (c .lent) (c .left)) where
   pub call-says : when (took v c) (reportOf c) ≡ said v (o .answer) (laid (o .packets) (c .lent))
@@ -87,5 +92,5 @@ module _ (v : ℕ) (s : Session) (f : Frame) (d : List ℕ) where
       → said v (accepted s f d .answer) (laid (accepted s f d .packets) l) ≡ when (eqb (f .channel) v) (report (s .arrival) (ruled s f d))
   unfolding accepted
   accepted-says l =
-      ap (λ (ps : List rules.Handed). when (eqb (f .channel) v) (record { arrival = s .arrival; lost = ruled s f d .lost; packets = ps }))
+      ap (λ (ps : List rules.Handed). when (eqb (f .channel) v) (record { arrival = s .arrival; lost = ruled s f d .lost; headers = ruled s f d .headers; packets = ps }))
       (read-back (s .arrival) _ (ruled s f d .packets) l (ruled-arrivals s f d) refl)

@@ -19,7 +19,7 @@ use Rattle.delivery.specs.Channels.{offered, run}
 
 -- What is said where a loss is seen at once: d frames were lost since the last arrival (none: none arrived yet).
 abbrev reported : ℕ → Loss → Work → Report
-reported a l w = record { arrival = a; lost = l; packets = w .packets }
+reported a l w = record { arrival = a; lost = l; headers = w .headers; packets = w .packets }
 
 abbrev pub eager : Option ℕ → Bool → Held → List Fate → List Report
 eager d b h [] = []

@@ -1,4 +1,4 @@
--- A frame hands out at most 16 packets and 501 octets.
+-- A frame hands out at most 16 packets and 501 octets and completes at most 17 headers.
 use mathlib.Core.Path.{_≡_, ap, _∙_}
 use mathlib.Core.List.{List}
 use native.Mathlib.Omega.{arith}
@@ -25,4 +25,5 @@ few-each s c g =
     record {
       packets = omega (arith, ap (λ (ps : List Handed). length (bare ps)) read, k .packets);
       octets = omega (arith, ap (λ (ps : List Handed). length (joined (bare ps))) read, k .octets);
+      headers = omega (arith, ap (λ (a : Told Accepted). a .fields .headers) (g .answers), k .headers);
     }

@@ -9,9 +9,11 @@ use lib.ListN.{length, getD, take, drop, replicate}
 use lib.Seq.{slice, slice-empty}
 use lib.Dec.{eqb}
 use borrow.Author.Tests.{ne-eqb}
-use Rattle.rules.specs.Channel.{Piece, Held, nothing, cleared, Work, feed, holding, outOfStep, follow, enter, fits, pointerTo}
+use Rattle.rules.specs.Channel.{Piece, Held, nothing, cleared, unfinished, standing, Work, feed, holding, outOfStep, follow, enter, fits, pointerTo}
 use Rattle.rules.specs.Packets.{AllGood, joined}
-use Rattle.rules.proofs.Standing.{Order, upTo, past, order}
+use Rattle.rules.specs.Limits.{mostSent}
+use Rattle.rules.proofs.Standing.{Order, upTo, past, order, empty-unfinished, standing-unfinished}
+use Rattle.rules.proofs.Bounds.{entered-few, gone-on-few}
 use Rattle.sender.proofs.Sending.{restAfter, packetsAfter}
 use Rattle.delivery.specs.Link.{Fate, lost, got}
 use Rattle.delivery.specs.Expected.{isGot, arrivalOf, allGot, arrived, nowhere}
@@ -99,21 +101,27 @@ module _ (ss : List Fate) where
         ≡ w .packets ++ walk ss start packet (restAfter n r ps) (packetsAfter n r ps) own
     pub inv : Inv (suc k) (w .inStep) (w .held) start packet (restAfter n r ps)
     pub good : AllGood (packetsAfter n r ps)
+    pub light : w .headers ≤ mostSent
 
   fits-now : (k i : ℕ) (h : Held) (p r : List ℕ) (ps : List (List ℕ)) (n : ℕ) → Inv k true h i p r
       → fits (h .octets) (pointerTo (length r) (length (take n (r ++ joined ps)))) (take n (r ++ joined ps)) ≡ true
   fits-now k i h p [] ps n v = rw v (fits-between (take n (joined ps)))
   fits-now k i h p (x ∷ r) ps n v = fits-held (h .octets) (x ∷ r) p (joined ps) n (v .some) (v .all) (v .good)
 
-  follow-in : (a : ℕ) (h : Held) (ptr : ℕ) (xs : List ℕ) → eqb ptr 254 ≡ false → fits (h .octets) ptr xs ≡ true → follow a true h ptr xs ≡ feed a (holding h []) xs
+  -- what is held begins a packet
+  unfinished-now : (k i : ℕ) (h : Held) (p r : List ℕ) → Inv k true h i p r → standing (h .octets) ≡ unfinished
+  unfinished-now k i h p [] v = rw v empty-unfinished
+  unfinished-now k i h p (x ∷ r) v = standing-unfinished (h .octets) (x ∷ r) p (v .all) (v .good) (omega arith)
+
+  follow-in : (a : ℕ) (h : Held) (ptr : ℕ) (xs : List ℕ) → eqb ptr 254 ≡ false → fits (h .octets) ptr xs ≡ true → follow a true h ptr xs ≡ feed a (holding h [] 0) xs
   unfolding follow
   follow-in a h ptr xs e f = rw (e, f)
 
-  follow-none : (a ptr : ℕ) (xs : List ℕ) → ptr ≡ 255 → follow a false nothing ptr xs ≡ outOfStep []
+  follow-none : (a ptr : ℕ) (xs : List ℕ) → ptr ≡ 255 → follow a false nothing ptr xs ≡ outOfStep [] 0
   unfolding follow enter
   follow-none a ptr xs e = rw e
 
-  follow-some : (a ptr : ℕ) (xs : List ℕ) → ptr < 254 → follow a false nothing ptr xs ≡ feed a (holding nothing []) (drop ptr xs)
+  follow-some : (a ptr : ℕ) (xs : List ℕ) → ptr < 254 → follow a false nothing ptr xs ≡ feed a (holding nothing [] 0) (drop ptr xs)
   unfolding follow enter
   follow-some a ptr xs l = rw (ne-eqb ptr 254 (λ e. omega arith), ne-eqb ptr 255 (λ e. omega arith))
 
@@ -127,9 +135,9 @@ module _ (ss : List Fate) where
         let xs : List ℕ = take n (r ++ joined ps) in
         let nr : eqb (pointerTo (length r) (length xs)) 254 ≡ false =
         not-raw (length r) (length xs) small in
-        let u : Taken ss k a arr own n h r ps [] i p =
-        takes ss k a arr own (got-here k a f t e) n h r ps [] i p gs (now-begun k a i f t e h p r v) in
-        let w : follow a true h (pointerTo (length r) (length xs)) xs ≡ holding (u .held) (u .out) =
+        let u : Taken ss k a arr own n h r ps [] 0 i p =
+        takes ss k a arr own (got-here k a f t e) n h r ps [] 0 i p gs (now-begun k a i f t e h p r v) in
+        let w : follow a true h (pointerTo (length r) (length xs)) xs ≡ holding (u .held) (u .out) (u .headers) =
         follow-in a h (pointerTo (length r) (length xs)) xs nr (fits-now k i h p r ps n v) ∙ u .fed in
         rw w (record {
           start = u .start;
@@ -137,13 +145,14 @@ module _ (ss : List Fate) where
           same = u .same;
           inv = after-begun k (u .start) (u .held) (u .packet) (restAfter n r ps) (u .begins);
           good = u .good;
+          light = omega (arith, ap (λ (v : Work). v .headers) w, gone-on-few a h (pointerTo (length r) (length xs)) xs (unfinished-now k i h p r v) (fits-now k i h p r ps n v) small);
         })
 
     got-none : (p r : List ℕ) (i : ℕ) (ps : List (List ℕ)) → AllGood ps → Missed ss k i r → length (take n (r ++ joined ps)) ≤ length r
         → Stepped k a i p r ps n own (follow a false nothing (pointerTo (length r) (length (take n (r ++ joined ps)))) (take n (r ++ joined ps)))
     got-none p r i ps gs m l =
         let xs : List ℕ = take n (r ++ joined ps) in
-        let w : follow a false nothing (pointerTo (length r) (length xs)) xs ≡ outOfStep [] =
+        let w : follow a false nothing (pointerTo (length r) (length xs)) xs ≡ outOfStep [] 0 =
         follow-none a (pointerTo (length r) (length xs)) xs (pointer-none (length r) (length xs) l) in
         let mg = missed-all ss k own n i r ps gs m l in
         rw w (record {
@@ -152,6 +161,7 @@ module _ (ss : List Fate) where
           same = skip-all ss k own n i p r ps gs m l;
           inv = after-missed k i p (restAfter n r ps) (mg .0);
           good = mg .1;
+          light = omega arith;
         })
 
     got-some : (p r : List ℕ) (i : ℕ) (ps : List (List ℕ)) → AllGood ps → Missed ss k i r → length r < length (take n (r ++ joined ps)) → length (take n (r ++ joined ps)) ≤ 251
@@ -159,18 +169,19 @@ module _ (ss : List Fate) where
     got-some p r i ps gs m l small =
         let xs : List ℕ = take n (r ++ joined ps) in
         let s : Skipped ss k own n i p r ps = skip-to ss k own n i p r ps m l in
-        let u : Taken ss k a arr own (left n r) nothing [] ps [] i p =
-        takes ss k a arr own (got-here k a f t e) (left n r) nothing [] ps [] i p gs refl in
-        let w : follow a false nothing (pointerTo (length r) (length xs)) xs ≡ holding (u .held) (u .out) =
+        let u : Taken ss k a arr own (left n r) nothing [] ps [] 0 i p =
+        takes ss k a arr own (got-here k a f t e) (left n r) nothing [] ps [] 0 i p gs refl in
+        let w : follow a false nothing (pointerTo (length r) (length xs)) xs ≡ holding (u .held) (u .out) (u .headers) =
         ap (λ (q : ℕ). follow a false nothing q xs) (pointer-some (length r) (length xs) l)
         ∙ follow-some a (length r) xs (omega arith)
-        ∙ ap (feed a (holding nothing [])) (s .dropped) ∙ u .fed in
+        ∙ ap (feed a (holding nothing [] 0)) (s .dropped) ∙ u .fed in
         rw w (record {
           start = u .start;
           packet = u .packet;
           same = rw (s .rest, s .packets) (s .same ∙ u .same);
           inv = rw (s .rest) (after-begun k (u .start) (u .held) (u .packet) (restAfter (left n r) [] ps) (u .begins));
           good = rw (s .packets) (u .good);
+          light = omega (arith, ap (λ (v : Work). v .headers) w, entered-few a nothing (pointerTo (length r) (length xs)) xs small);
         })
 
     got-out : (h : Held) (p r : List ℕ) (i : ℕ) (ps : List (List ℕ)) → AllGood ps → Inv k false h i p r → length (take n (r ++ joined ps)) ≤ 251

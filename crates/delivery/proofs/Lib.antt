@@ -15,3 +15,4 @@ pub mod Shams
 pub mod Lending
 pub mod Witness
 pub mod MostLost
+pub mod MostHeaders

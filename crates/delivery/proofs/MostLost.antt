@@ -38,11 +38,11 @@ well-formed : AllWellFormed 2 recording
 unfolding fieldsWrong pointerWrong
 well-formed = all-right 2 recording refl
 
-alone-masters : (m : ℕ) (ps : List Piece) → Mastered m (alone m ps)
+pub alone-masters : (m : ℕ) (ps : List Piece) → Mastered m (alone m ps)
 alone-masters m [] = tt
 alone-masters m (p ∷ ps) = (refl, alone-masters (nextCount m) ps)
 
-alone-pieces : (m : ℕ) (ps : List Piece) → piecesOf 0 (alone m ps) ≡ ps
+pub alone-pieces : (m : ℕ) (ps : List Piece) → piecesOf 0 (alone m ps) ≡ ps
 alone-pieces m [] = refl
 alone-pieces m (p ∷ ps) = ap (λ (l : List Piece). p ∷ l) (alone-pieces (nextCount m) ps)
 
@@ -50,11 +50,11 @@ alone-pieces m (p ∷ ps) = ap (λ (l : List Piece). p ∷ l) (alone-pieces (nex
 other : (v : ℕ) → eqb 0 (suc v) ≡ false
 other v = ne-eqb 0 (suc v) (λ e. omega arith)
 
-no-pieces : (v m : ℕ) (ps : List Piece) → piecesOf (suc v) (alone m ps) ≡ []
+pub no-pieces : (v m : ℕ) (ps : List Piece) → piecesOf (suc v) (alone m ps) ≡ []
 no-pieces v m [] = refl
 no-pieces v m (p ∷ ps) = rw (other v) (no-pieces v (nextCount m) ps)
 
-no-fates : (v last : ℕ) (link : List Passing) (m : ℕ) (ps : List Piece) → fates (suc v) last link (alone m ps) ≡ []
+pub no-fates : (v last : ℕ) (link : List Passing) (m : ℕ) (ps : List Piece) → fates (suc v) last link (alone m ps) ≡ []
 no-fates v last link m [] = refl
 no-fates v last [] m (p ∷ ps) = rw (other v) (no-fates v last [] (nextCount m) ps)
 no-fates v last (arrives ∷ link) m (p ∷ ps) = rw (other v) (no-fates v (last + 1) link (nextCount m) ps)

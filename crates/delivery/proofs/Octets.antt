@@ -5,7 +5,7 @@ use mathlib.Core.Bool.{true, false}
 use Prim.Native.Nat.{ℕ, zero, suc, _+_, _≤_, _<_}
 use native.Mathlib.Omega.{arith}
 use lib.ListN.{length, getD, take, drop, length-append, replicate}
-use Rattle.rules.specs.Channel.{heldOf, Held, nothing, begunIn, grown, Handed, given, unfinished, whole, standing, push, feed, holding}
+use Rattle.rules.specs.Channel.{heldOf, Held, nothing, begunIn, grown, Handed, given, unfinished, whole, standing, sixth, push, feed, holding}
 use Rattle.rules.specs.Packets.{Good, AllGood, joined}
 use Rattle.sender.proofs.Sending.{restAfter, packetsAfter}
 use Rattle.delivery.specs.Link.{Fate}
@@ -32,59 +32,62 @@ begun-some a first (suc n) h = refl
 
 -- A frame k that arrived under the number a, in step: n octets more
 module _ (ss : List Fate) (k a : ℕ) (arr : arrivalOf (getD ss k nowhere) ≡ a) (own : List ℕ) where
-  pub record Taken (n : ℕ) (h : Held) (r : List ℕ) (ps : List (List ℕ)) (acc : List Handed) (i : ℕ) (p : List ℕ) : Type 0 where
+  pub record Taken (n : ℕ) (h : Held) (r : List ℕ) (ps : List (List ℕ)) (acc : List Handed) (m i : ℕ) (p : List ℕ) : Type 0 where
     pub out : List Handed
     pub held : Held
     pub start : ℕ
     pub packet : List ℕ
-    pub fed : feed a (holding h acc) (take n (r ++ joined ps)) ≡ holding held (acc ++ out)
+    pub headers : ℕ
+    pub fed : feed a (holding h acc m) (take n (r ++ joined ps)) ≡ holding held (acc ++ out) headers
     pub same : walk ss i p r ps (replicate (length (take n (r ++ joined ps))) k ++ own)
         ≡ out ++ walk ss start packet (restAfter n r ps) (packetsAfter n r ps) own
     pub begins : Begun ss (arrived ss start k ≡ true) k start held (restAfter n r ps) packet
     pub good : AllGood (packetsAfter n r ps)
 
   abbrev Takes : ℕ → Type 0
-  Takes n = (h : Held) (r : List ℕ) (ps : List (List ℕ)) (acc : List Handed) (i : ℕ) (p : List ℕ) → AllGood ps
-      → Begun ss (arrived ss i k ≡ true) k i h r p → Taken n h r ps acc i p
+  Takes n = (h : Held) (r : List ℕ) (ps : List (List ℕ)) (acc : List Handed) (m i : ℕ) (p : List ℕ) → AllGood ps
+      → Begun ss (arrived ss i k ≡ true) k i h r p → Taken n h r ps acc m i p
 
   -- an octet that is not its packet's last; and one that is
-  take-more : (n : ℕ) → Takes n → (h : Held) (x y : ℕ) (r : List ℕ) (ps : List (List ℕ)) (acc : List Handed) (i : ℕ) (p : List ℕ) → AllGood ps
+  take-more : (n : ℕ) → Takes n → (h : Held) (x y : ℕ) (r : List ℕ) (ps : List (List ℕ)) (acc : List Handed) (m i : ℕ) (p : List ℕ) → AllGood ps
       → h .octets ++ x ∷ y ∷ r ≡ p → Good p → i ≤ k → arrived ss i k ≡ true → begunIn a (h .first) (length (h .octets)) ≡ arrivalOf (getD ss i nowhere)
-      → Taken (suc n) h (x ∷ y ∷ r) ps acc i p
+      → Taken (suc n) h (x ∷ y ∷ r) ps acc m i p
   unfolding push
-  take-more n rec h x y r ps acc i p gs e g l ok fi =
+  take-more n rec h x y r ps acc m i p gs e g l ok fi =
       let h′ : List ℕ = h .octets ++ x ∷ [] in
       let e′ : h′ ++ y ∷ r ≡ p = append-assoc (h .octets) (x ∷ []) (y ∷ r) ∙ e in
       let st : standing h′ ≡ unfinished = standing-unfinished h′ (y ∷ r) p e′ g (omega arith) in
       let len : length h′ ≡ length (h .octets) + 1 = length-append (h .octets) (x ∷ []) in
-      let t : Taken n (grown a h x) (y ∷ r) ps acc i p = rec (grown a h x) (y ∷ r) ps acc i p gs (record { all = e′; some = omega arith; good = g; begun = l; arrives = ok; first = fi }) in
+      let t : Taken n (grown a h x) (y ∷ r) ps acc (sixth (h .octets) m) i p = rec (grown a h x) (y ∷ r) ps acc (sixth (h .octets) m) i p gs (record { all = e′; some = omega arith; good = g; begun = l; arrives = ok; first = fi }) in
       record {
         out = t .out;
         held = t .held;
         start = t .start;
         packet = t .packet;
+        headers = t .headers;
         fed = rw st (t .fed);
         same = t .same;
         begins = t .begins;
         good = t .good;
       }
 
-  take-last : (n : ℕ) → Takes n → (h : Held) (x : ℕ) (ps : List (List ℕ)) (acc : List Handed) (i : ℕ) (p : List ℕ) → AllGood ps
+  take-last : (n : ℕ) → Takes n → (h : Held) (x : ℕ) (ps : List (List ℕ)) (acc : List Handed) (m i : ℕ) (p : List ℕ) → AllGood ps
       → h .octets ++ x ∷ [] ≡ p → Good p → i ≤ k → arrived ss i k ≡ true → begunIn a (h .first) (length (h .octets)) ≡ arrivalOf (getD ss i nowhere)
-      → Taken (suc n) h (x ∷ []) ps acc i p
+      → Taken (suc n) h (x ∷ []) ps acc m i p
   unfolding push
-  take-last n rec h x ps acc i p gs e g l ok fi =
+  take-last n rec h x ps acc m i p gs e g l ok fi =
       let h′ : List ℕ = h .octets ++ x ∷ [] in
       let g′ : Handed = given a (grown a h x) in
       let st : standing h′ ≡ whole = standing-whole h′ [] p (append-nil h′ ∙ e) g refl in
-      let t : Taken n nothing [] ps (acc ++ g′ ∷ []) i p = rec nothing [] ps (acc ++ g′ ∷ []) i p gs refl in
+      let t : Taken n nothing [] ps (acc ++ g′ ∷ []) (sixth (h .octets) m) i p = rec nothing [] ps (acc ++ g′ ∷ []) (sixth (h .octets) m) i p gs refl in
       let is : given a (heldOf (arrivalOf (getD ss i nowhere)) p) ≡ g′ = rw (← e, ← fi) in
       record {
         out = g′ ∷ t .out;
         held = t .held;
         start = t .start;
         packet = t .packet;
-        fed = rw st (t .fed ∙ ap (holding (t .held)) (append-assoc acc (g′ ∷ []) (t .out)));
+        headers = t .headers;
+        fed = rw st (t .fed ∙ ap (λ (qs : List Handed). holding (t .held) qs (t .headers)) (append-assoc acc (g′ ∷ []) (t .out)));
         same = rw (ok, arr)
             (ap (λ (d : Handed). d ∷ expectedFrom ss ps (replicate (length (take n (joined ps))) k ++ own)) is
             ∙ ap (λ (l : List Handed). g′ ∷ l) (t .same));
@@ -92,48 +95,51 @@ module _ (ss : List Fate) (k a : ℕ) (arr : arrivalOf (getD ss k nowhere) ≡ a
         good = t .good;
       }
 
-  take-octet : (n : ℕ) → Takes n → (h : Held) (x : ℕ) (r : List ℕ) (ps : List (List ℕ)) (acc : List Handed) (i : ℕ) (p : List ℕ) → AllGood ps
+  take-octet : (n : ℕ) → Takes n → (h : Held) (x : ℕ) (r : List ℕ) (ps : List (List ℕ)) (acc : List Handed) (m i : ℕ) (p : List ℕ) → AllGood ps
       → h .octets ++ x ∷ r ≡ p → Good p → i ≤ k → arrived ss i k ≡ true → begunIn a (h .first) (length (h .octets)) ≡ arrivalOf (getD ss i nowhere)
-      → Taken (suc n) h (x ∷ r) ps acc i p
-  take-octet n rec h x [] ps acc i p gs e g l ok fi = take-last n rec h x ps acc i p gs e g l ok fi
-  take-octet n rec h x (y ∷ r) ps acc i p gs e g l ok fi = take-more n rec h x y r ps acc i p gs e g l ok fi
+      → Taken (suc n) h (x ∷ r) ps acc m i p
+  take-octet n rec h x [] ps acc m i p gs e g l ok fi = take-last n rec h x ps acc m i p gs e g l ok fi
+  take-octet n rec h x (y ∷ r) ps acc m i p gs e g l ok fi = take-more n rec h x y r ps acc m i p gs e g l ok fi
 
-  none : (n : ℕ) (h : Held) (r : List ℕ) (ps : List (List ℕ)) (acc : List Handed) (i : ℕ) (p : List ℕ) → AllGood ps
-      → Begun ss (arrived ss i k ≡ true) k i h r p → Taken 0 h r ps acc i p
-  none n h r ps acc i p gs b = record {
+  none : (n : ℕ) (h : Held) (r : List ℕ) (ps : List (List ℕ)) (acc : List Handed) (m i : ℕ) (p : List ℕ) → AllGood ps
+      → Begun ss (arrived ss i k ≡ true) k i h r p → Taken 0 h r ps acc m i p
+  none n h r ps acc m i p gs b = record {
     out = [];
     held = h;
     start = i;
     packet = p;
-    fed = ap (holding h) (sym (append-nil acc));
+    headers = m;
+    fed = ap (λ (qs : List Handed). holding h qs m) (sym (append-nil acc));
     same = refl;
     begins = b;
     good = gs;
   }
 
   pub takes : arrived ss k k ≡ true → (n : ℕ) → Takes n
-  takes here zero h r ps acc i p gs b = none 0 h r ps acc i p gs b
-  takes here (suc n) h (x ∷ r) ps acc i p gs b =
-      take-octet n (takes here n) h x r ps acc i p gs (b .all) (b .good) (b .begun) (b .arrives) (begun-some a (h .first) (length (h .octets)) (b .some) ∙ b .first)
-  takes here (suc n) h [] [] acc i p gs b = record {
+  takes here zero h r ps acc m i p gs b = none 0 h r ps acc m i p gs b
+  takes here (suc n) h (x ∷ r) ps acc m i p gs b =
+      take-octet n (takes here n) h x r ps acc m i p gs (b .all) (b .good) (b .begun) (b .arrives) (begun-some a (h .first) (length (h .octets)) (b .some) ∙ b .first)
+  takes here (suc n) h [] [] acc m i p gs b = record {
     out = [];
     held = h;
     start = i;
     packet = p;
-    fed = ap (holding h) (sym (append-nil acc));
+    headers = m;
+    fed = ap (λ (qs : List Handed). holding h qs m) (sym (append-nil acc));
     same = refl;
     begins = b;
     good = gs;
   }
-  takes here (suc n) h [] ([] ∷ ps) acc i p gs b = absurd (omega (arith, gs .0 .least))
-  takes here (suc n) h [] ((x ∷ q) ∷ ps) acc i p gs b =
-      let t : Taken (suc n) nothing (x ∷ q) ps acc k (x ∷ q) =
-      take-octet n (takes here n) nothing x q ps acc k (x ∷ q) (gs .1) refl (gs .0) (omega arith) here (sym arr) in
+  takes here (suc n) h [] ([] ∷ ps) acc m i p gs b = absurd (omega (arith, gs .0 .least))
+  takes here (suc n) h [] ((x ∷ q) ∷ ps) acc m i p gs b =
+      let t : Taken (suc n) nothing (x ∷ q) ps acc m k (x ∷ q) =
+      take-octet n (takes here n) nothing x q ps acc m k (x ∷ q) (gs .1) refl (gs .0) (omega arith) here (sym arr) in
       record {
         out = t .out;
         held = t .held;
         start = t .start;
         packet = t .packet;
+        headers = t .headers;
         fed = rw b (t .fed);
         same = begin ss x q ps k (replicate (length (take n (q ++ joined ps))) k ++ own) ∙ t .same;
         begins = t .begins;

@@ -12,8 +12,9 @@ use Rattle.sender.specs.Stream.{Choice, raw, next, nextCount, framesBy}
 use Rattle.sender.proofs.Sending.{frames-cut, restAfter, packetsAfter, nextPiece, cutInto}
 use Rattle.delivery.specs.Link.{Fate, lost, got}
 use Rattle.delivery.specs.Expected.{piece, owners, expectedLosses, AtMost, mostLost, oneMore}
-use Rattle.delivery.specs.Delivered.{Delivered, handed, losses}
+use Rattle.delivery.specs.Delivered.{Report, Delivered, handed, losses}
 use Rattle.delivery.specs.Channels.{offered, run}
+use Rattle.delivery.specs.Further.{EachFew}
 use Rattle.delivery.proofs.Facts.{nil-cons, drop-suc, carries-next}
 use Rattle.delivery.proofs.Counts.{eager, eager-losses, Counted, counts}
 use Rattle.delivery.proofs.Walk.{walk, expected-none}
@@ -25,8 +26,13 @@ abbrev pub AllShort : List Piece → Type 0
 AllShort [] = Unit {0}
 AllShort (f ∷ fs) = (length (f .octets) ≤ 251) × AllShort fs
 
+-- what is said, and that no frame completes more than 16 headers
+record Walked (reports : List Report) (walked : List Handed) : Type 0 where
+  packets : handed reports ≡ walked
+  light : EachFew reports
+
 module _ (ss : List Fate) where
-  follow-raw : (a : ℕ) (b : Bool) (h : Held) (xs : List ℕ) → follow a b h 254 xs ≡ record { inStep = b; held = h; packets = [] }
+  follow-raw : (a : ℕ) (b : Bool) (h : Held) (xs : List ℕ) → follow a b h 254 xs ≡ record { inStep = b; held = h; packets = []; headers = 0 }
   unfolding follow
   follow-raw a b h xs = refl
 
@@ -36,8 +42,8 @@ module _ (ss : List Fate) where
 
   main : (t : List Fate) (cs : List Choice) (c k : ℕ) (o : Option ℕ) (b : Bool) (h : Held) (i : ℕ) (p r : List ℕ) (ps : List (List ℕ))
       → drop k ss ≡ t → map piece t ≡ cutInto c r ps cs → AllGood ps → AllShort (map piece t) → Inv ss k b h i p r
-      → handed (eager o b h t) ≡ walk ss i p r ps (owners k t)
-  main [] cs c k o b h i p r ps d e gs sz v = sym (walk-none i p r ps gs)
+      → Walked (eager o b h t) (walk ss i p r ps (owners k t))
+  main [] cs c k o b h i p r ps d e gs sz v = record { packets = sym (walk-none i p r ps gs); light = tt }
   main (s ∷ t) [] c k o b h i p r ps d e gs sz v = absurd (nil-cons (sym e))
   main (lost f ∷ t) (raw xs ∷ cs) c k o b h i p r ps d e gs sz v =
       let here : f ≡ record { count = c; pointer = 254; octets = xs } = cc in
@@ -56,19 +62,21 @@ module _ (ss : List Fate) where
   main (got a f ∷ t) (raw xs ∷ cs) c k o b h i p r ps d e gs sz v =
       let here : f ≡ record { count = c; pointer = 254; octets = xs } = cc in
       let rest : map piece t ≡ cutInto (nextCount c) r ps cs = cc in
-      rw (here, follow-raw a b h xs)
-      (main t cs (nextCount c) (suc k) (some 0) b (cleared h) i p r ps (drop-suc ss k (got a f) t d) rest gs (sz .1)
-      (cleared-inv ss (suc k) b h i p r (after-raw ss k a i f t d b h p r v)))
+      let m : Walked (eager (some 0) b (cleared h) t) (walk ss i p r ps (owners (suc k) t)) =
+      main t cs (nextCount c) (suc k) (some 0) b (cleared h) i p r ps (drop-suc ss k (got a f) t d) rest gs (sz .1)
+      (cleared-inv ss (suc k) b h i p r (after-raw ss k a i f t d b h p r v)) in
+      rw (here, follow-raw a b h xs) (record { packets = m .packets; light = (omega arith, m .light) })
   main (got a f ∷ t) (next n ∷ cs) c k o b h i p r ps d e gs sz v =
       let here : f ≡ nextPiece c r ps n = cc in
       let rest : map piece t ≡ cutInto (nextCount c) (restAfter n r ps) (packetsAfter n r ps) cs = cc in
       let small : length (take n (r ++ joined ps)) ≤ 251 = omega (arith, sz .0, ap (λ (g : Piece). length (g .octets)) here) in
       let w : Work = follow a b h (pointerTo (length r) (length (take n (r ++ joined ps)))) (take n (r ++ joined ps)) in
       let g : Stepped ss k a i p r ps n (owners (suc k) t) w = got-any ss k a f t d n (owners (suc k) t) b h p r i ps gs v small in
+      let m : Walked (eager (some 0) (w .inStep) (cleared (w .held)) t) (walk ss (g .start) (g .packet) (restAfter n r ps) (packetsAfter n r ps) (owners (suc k) t)) =
+      main t cs (nextCount c) (suc k) (some 0) (w .inStep) (cleared (w .held)) (g .start) (g .packet) (restAfter n r ps) (packetsAfter n r ps)
+      (drop-suc ss k (got a f) t d) rest (g .good) (sz .1) (cleared-inv ss (suc k) (w .inStep) (w .held) (g .start) (g .packet) (restAfter n r ps) (g .inv)) in
       rw (here, carries-next c r ps n small, g .same)
-      (ap (λ (l : List Handed). w .packets ++ l)
-      (main t cs (nextCount c) (suc k) (some 0) (w .inStep) (cleared (w .held)) (g .start) (g .packet) (restAfter n r ps) (packetsAfter n r ps)
-      (drop-suc ss k (got a f) t d) rest (g .good) (sz .1) (cleared-inv ss (suc k) (w .inStep) (w .held) (g .start) (g .packet) (restAfter n r ps) (g .inv))))
+      (record { packets = ap (λ (l : List Handed). w .packets ++ l) (m .packets); light = (g .light, m .light) })
 
 counted : (t : List Fate) (cs : List Choice) (c : ℕ) (r : List ℕ) (ps : List (List ℕ)) → map piece t ≡ cutInto c r ps cs → Counted c t
 counted [] cs c r ps e = tt
@@ -91,6 +99,15 @@ delivery ps cs c ss gs hc e sz m =
     let e′ : map piece ss ≡ cutInto c [] ps cs = e ∙ frames-cut ps cs 0 c [] ps gs refl refl in
     let seen = counts ss c hc (counted ss cs c [] ps e′) m in
     record {
-      handed-out = ap handed seen ∙ main ss ss cs c 0 none false nothing 0 [] [] ps refl e′ gs sz (record { empty = refl; gap = tt });
+      handed-out = ap handed seen ∙ main ss ss cs c 0 none false nothing 0 [] [] ps refl e′ gs sz (record { empty = refl; gap = tt }) .packets;
       losses-told = ap losses seen ∙ eager-losses none false nothing ss;
     }
+
+-- the headers of the same channel
+pub few-headers : (ps : List (List ℕ)) (cs : List Choice) (c : ℕ) (ss : List Fate)
+    → AllGood ps → c < 256 → map piece ss ≡ framesBy ps 0 c cs → AllShort (map piece ss) → AtMost mostLost (expectedLosses ss)
+    → EachFew (run fresh (offered ss))
+few-headers ps cs c ss gs hc e sz m =
+    let e′ : map piece ss ≡ cutInto c [] ps cs = e ∙ frames-cut ps cs 0 c [] ps gs refl refl in
+    rw (counts ss c hc (counted ss cs c [] ps e′) m)
+    (main ss ss cs c 0 none false nothing 0 [] [] ps refl e′ gs sz (record { empty = refl; gap = tt }) .light)

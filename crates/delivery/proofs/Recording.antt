@@ -28,9 +28,9 @@ use Rattle.delivery.specs.Expected.{piece}
 use Rattle.delivery.specs.Delivered.{Delivered}
 use Rattle.delivery.specs.Run.{Call, Runs, Room, offerOf, reportsOf}
 use Rattle.delivery.specs.Channels.{Offer, offered, run, readOffer, offerFor, offersOf}
-use Rattle.delivery.specs.Demand.{Demand3}
-use Rattle.delivery.specs.Further.{Independent, IndependentFrom}
-use Rattle.delivery.proofs.OneChannel.{AllShort, delivery}
+use Rattle.delivery.specs.Demand.{Reception, Demand3}
+use Rattle.delivery.specs.Further.{Independent, IndependentFrom, EachFew, FewSent}
+use Rattle.delivery.proofs.OneChannel.{AllShort, delivery, few-headers}
 use Rattle.delivery.proofs.Calls.{fresh-viewed}
 use Rattle.delivery.proofs.Projection.{numbered, projects}
 
@@ -136,16 +136,45 @@ independent-from s s′ v calls calls′ l l′ u u′ t c w room w′ room′ e
     ∙ ap (λ (z : rules.Channel). run z (offersOf (s′ .t) v (s′ .arrival) (map offerOf calls′))) c
     ∙ sym (projects (s′ .t) v calls′ s′ (record { sound = u′; time = refl; there = l′ }) w′ room′)
 
+-- what calls from an opening say of a channel, well-formed frames having been offered to them
+pub frames-said : (t last v : ℕ) → t ≤ 8 → v < 8 → (o : Opened) → Opens t last o → (calls : List Call) → Runs (o .session) calls → Room calls
+    → (link : List Passing) (frames : List Framed) → AllWellFormed t frames → map offerOf calls ≡ arriving t link frames
+    → last + length (arriving t link frames) ≤ lastNumber → reportsOf v calls ≡ run rules.fresh (offered (fates v last link frames))
+frames-said t last v k l o h calls w room link frames well e n =
+    from-opening t last v k l o h calls w room
+    ∙ ap (λ (xs : List Stretch). run rules.fresh (offersOf t v last xs)) e
+    ∙ ap (run rules.fresh) (offers-fates t v last link frames well n)
+
+module _ (r : Reception) (v : ℕ) (l : v < 8) where
+  abbrev ss : List Fate
+  ss = fates v (r .last) (r .link) (r .frames)
+
+  abbrev stream : Stream v (r .frames)
+  stream = r .sender .streams v l
+
+  pub said-is : reportsOf v (r .calls) ≡ run rules.fresh (offered ss)
+  said-is =
+      frames-said (r .t) (r .last) v (r .timeSize) l (r .opened) (r .opens) (r .calls) (r .runs) (r .room) (r .link) (r .frames)
+      (r .sender .wellFormed) (r .offers) (r .numbers)
+
+  pieces : map piece ss ≡ piecesOf v (r .frames)
+  pieces = fates-pieces v (r .last) (r .link) (r .frames)
+
+  short : AllShort (map piece ss)
+  short = subst AllShort (sym pieces) (all-short (r .t) v (r .frames) (r .sender .wellFormed))
+
+  pub delivered : Delivered (stream .packets) ss (reportsOf v (r .calls))
+  delivered =
+      subst (Delivered (stream .packets) ss) (sym said-is)
+      (delivery (stream .packets) (stream .choices) (stream .first) ss (stream .good) (stream .small) (pieces ∙ stream .sent) short (r .gaps v l))
+
+  pub light : EachFew (reportsOf v (r .calls))
+  light =
+      subst EachFew (sym said-is)
+      (few-headers (stream .packets) (stream .choices) (stream .first) ss (stream .good) (stream .small) (pieces ∙ stream .sent) short (r .gaps v l))
+
 pub demand-3 : Demand3
-demand-3 r v l =
-    let ss : List Fate = fates v (r .last) (r .link) (r .frames) in
-    let s : Stream v (r .frames) = r .sender .streams v l in
-    let same : reportsOf v (r .calls) ≡ run rules.fresh (offered ss) =
-    from-opening (r .t) (r .last) v (r .timeSize) l (r .opened) (r .opens) (r .calls) (r .runs) (r .room)
-    ∙ ap (λ (xs : List Stretch). run rules.fresh (offersOf (r .t) v (r .last) xs)) (r .offers)
-    ∙ ap (run rules.fresh) (offers-fates (r .t) v (r .last) (r .link) (r .frames) (r .sender .wellFormed) (r .numbers)) in
-    let pieces : map piece ss ≡ piecesOf v (r .frames) = fates-pieces v (r .last) (r .link) (r .frames) in
-    subst (Delivered (s .packets) ss) (sym same)
-    (delivery (s .packets) (s .choices) (s .first) ss (s .good) (s .small) (pieces ∙ s .sent)
-    (subst AllShort (sym pieces) (all-short (r .t) v (r .frames) (r .sender .wellFormed)))
-    (r .gaps v l))
+demand-3 r v l = delivered r v l
+
+pub few-sent : FewSent
+few-sent r v l = light r v l

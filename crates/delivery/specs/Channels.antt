@@ -26,7 +26,7 @@ offered (lost f ∷ ss) = offered ss
 offered (got a f ∷ ss) = record { arrival = a; frame = f } ∷ offered ss
 
 abbrev pub report : ℕ → Answer → Report
-report a r = record { arrival = a; lost = r .lost; packets = r .packets }
+report a r = record { arrival = a; lost = r .lost; headers = r .headers; packets = r .packets }
 
 -- What comes of a channel's frames, where `by` says what comes of one.
 abbrev pub runBy : (ℕ → Channel → Piece → Answer) → Channel → List Offer → List Report

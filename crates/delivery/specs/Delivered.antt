@@ -7,10 +7,11 @@ use Rattle.rules.specs.Channel.{Handed}
 use Rattle.delivery.specs.Link.{Fate}
 use Rattle.delivery.specs.Expected.{expected, LostAt, lostAt, expectedLosses}
 
--- What is said at an arrival on the channel: the arrival number, the lost frames and the packets handed out.
+-- What is said at an arrival on the channel: the arrival number, the lost frames, the headers completed and the packets handed out.
 pub record Report : Type 0 where
   pub arrival : ℕ
   pub lost : Loss
+  pub headers : ℕ
   pub packets : List Handed
 
 abbrev pub handed : List Report → List Handed

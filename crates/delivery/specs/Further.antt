@@ -7,7 +7,7 @@ use lib.ListN.{length}
 use Rattle.counts.specs.declared.Loss.{Loss}
 use Rattle.counts.specs.declared.Loss.the-variants.{Unknown, Known}
 use Rattle.frame.specs.Limits.{longestTime}
-use Rattle.rules.specs.Limits.{mostPackets, mostOctets, virtualChannels}
+use Rattle.rules.specs.Limits.{mostPackets, mostOctets, mostHeaders, mostSent, virtualChannels}
 use Rattle.rules.specs.Packets.{bare, joined}
 use Rattle.session.specs.declared.Session.{Session}
 use Rattle.session.specs.declared.Opened.{Opened}
@@ -18,7 +18,7 @@ use Rattle.session.specs.Statements.{offered}
 use Rattle.sender.specs.Sender.{when}
 use Rattle.delivery.specs.Link.{kept, fates, allFates}
 use Rattle.delivery.specs.Expected.{owners, LostAt, lostAt, expectedLosses, AtMost, mostLost}
-use Rattle.delivery.specs.Delivered.{handed}
+use Rattle.delivery.specs.Delivered.{Report, handed}
 use Rattle.delivery.specs.Run.{Call, Runs, Room, offerOf, answerOf, packetsOf, reportsOf}
 use Rattle.delivery.specs.Channels.{offersOf}
 use Rattle.delivery.specs.Demand.{Reception}
@@ -46,13 +46,22 @@ NothingLost = (r : Reception) → kept (r .link) (r .frames) ≡ r .frames → (
     → length (joined (r .sender .streams v l .packets)) ≤ length (owners 0 (fates v (r .last) (r .link) (r .frames)))
     → bare (handed (reportsOf v (r .calls))) ≡ r .sender .streams v l .packets
 
--- A call hands out at most 16 packets and 501 octets, whatever the session and whoever wrote the frame.
+-- A call hands out at most 16 packets and 501 octets and completes at most 17 headers, whatever the session and whoever wrote the frame.
 pub record Few (c : Call) : Type 0 where
   pub packets : length (bare (packetsOf c)) ≤ mostPackets
   pub octets : length (joined (bare (packetsOf c))) ≤ mostOctets
+  pub headers : answerOf c .fields .headers ≤ mostHeaders
 
 abbrev pub FewEach : Type 0
 FewEach = (s : Session) (c : Call) → Gives (offered s (c .offer) (c .lent)) (c .result) (c .lent) (c .left) → Few c
+
+-- Of a sender by the rules, received as demand 3 says, each frame completes at most 16 headers, on each of the eight channels.
+abbrev pub EachFew : List Report → Type 0
+EachFew [] = Unit {0}
+EachFew (r ∷ rs) = (r .headers ≤ mostSent) × EachFew rs
+
+abbrev pub FewSent : Type 0
+FewSent = (r : Reception) (v : ℕ) → v < virtualChannels → EachFew (reportsOf v (r .calls))
 
 -- The master losses that the run told, each with its arrival number.
 abbrev pub masterLosses : List Call → List LostAt

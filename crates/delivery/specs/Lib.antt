@@ -9,3 +9,4 @@ pub mod Corners
 pub mod Shams
 pub mod Witness
 pub mod MostLost
+pub mod MostHeaders

@@ -6,9 +6,9 @@ use Prim.Native.Nat.{ℕ, suc, _+_, _≤_, _<_}
 use native.Mathlib.Omega.{arith}
 use lib.ListN.{length, length-append, List·getD-append}
 use lib.Dec.{leb}
-use borrow.Author.Tests.{lt-ltb, leb-true, leb-false}
+use borrow.Author.Tests.{lt-ltb, leb-true, leb-false, eq-eqb, ne-eqb}
 use Rattle.octets.specs.Numbers.{at}
-use Rattle.rules.specs.Channel.{Standing, unfinished, whole, wrong, standing, lengthIn}
+use Rattle.rules.specs.Channel.{Standing, unfinished, whole, wrong, standing, lengthIn, sixth}
 use Rattle.rules.specs.Packets.{Good}
 
 -- m at most n or past it, with what the test says
@@ -124,3 +124,10 @@ whole-good h x u w = go (view h) (view (h ++ x ∷ []))
         record { least = omega arith; greatest = omega (arith, len); says = omega (arith, len) }
     go (done a b c d e) (done a′ b′ c′ d′ e′) = not-whole u e
     go (bad a n e) (done a′ b′ c′ d′ e′) = not-wrong u e
+
+-- whether the next octet is the sixth
+pub sixth-here : (s : List ℕ) (n : ℕ) → length s ≡ 5 → sixth s n ≡ suc n
+sixth-here s n e = rw (eq-eqb (length s) 5 e)
+
+pub sixth-else : (s : List ℕ) (n : ℕ) → (length s ≡ 5 → ⊥) → sixth s n ≡ n
+sixth-else s n e = rw (ne-eqb (length s) 5 e)

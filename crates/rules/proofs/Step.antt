@@ -6,7 +6,7 @@ use Prim.Native.Nat.{ℕ, zero, suc}
 use lib.ListN.{drop}
 use lib.Dec.{eqb}
 use Rattle.counts.specs.Lost.{lostSince, number}
-use Rattle.rules.specs.Channel.{Held, nothing, cleared, grown, Handed, given, Standing, unfinished, whole, wrong, standing, Work, holding, settle, push, feed, fits, enter, follow, afterLoss, step}
+use Rattle.rules.specs.Channel.{Held, nothing, cleared, grown, Handed, given, Standing, unfinished, whole, wrong, standing, Work, holding, settle, sixth, push, feed, fits, enter, follow, afterLoss, step}
 use Rattle.rules.specs.Step.{StepFields}
 use Rattle.rules.specs.Bounds.{Under, StepArrivals, StepFirst}
 
@@ -14,20 +14,20 @@ under-more : (a : ℕ) (ps : List Handed) (p : Handed) → Under a ps → p .arr
 under-more a [] p u e = (e, tt)
 under-more a (q ∷ ps) p u e = (u .0, under-more a ps p (u .1) e)
 
-settle-under : (a : ℕ) (st : Standing) (h : Held) (ps : List Handed) → Under a ps → Under a (settle a st h ps .packets)
-settle-under a unfinished h ps u = u
-settle-under a wrong h ps u = u
-settle-under a whole h ps u = under-more a ps (given a h) u refl
+settle-under : (a : ℕ) (st : Standing) (h : Held) (ps : List Handed) (n : ℕ) → Under a ps → Under a (settle a st h ps n .packets)
+settle-under a unfinished h ps n u = u
+settle-under a wrong h ps n u = u
+settle-under a whole h ps n u = under-more a ps (given a h) u refl
 
-push-under : (a : ℕ) (b : Bool) (h : Held) (ps : List Handed) (x : ℕ) → Under a ps
-    → Under a (push a (record { inStep = b; held = h; packets = ps }) x .packets)
+push-under : (a : ℕ) (b : Bool) (h : Held) (ps : List Handed) (n x : ℕ) → Under a ps
+    → Under a (push a (record { inStep = b; held = h; packets = ps; headers = n }) x .packets)
 unfolding push
-push-under a true h ps x u = settle-under a (standing (grown a h x .octets)) (grown a h x) ps u
-push-under a false h ps x u = u
+push-under a true h ps n x u = settle-under a (standing (grown a h x .octets)) (grown a h x) ps (sixth (h .octets) n) u
+push-under a false h ps n x u = u
 
 feed-under : (a : ℕ) (xs : List ℕ) (w : Work) → Under a (w .packets) → Under a (feed a w xs .packets)
 feed-under a [] w u = u
-feed-under a (x ∷ xs) w u = feed-under a xs (push a w x) (push-under a (w .inStep) (w .held) (w .packets) x u)
+feed-under a (x ∷ xs) w u = feed-under a xs (push a w x) (push-under a (w .inStep) (w .held) (w .packets) (w .headers) x u)
 
 either : (a : ℕ) (b : Bool) (x y : Work) → Under a (x .packets) → Under a (y .packets) → Under a (cond b x y .packets)
 either a true x y u v = u
@@ -37,8 +37,8 @@ follow-under : (a : ℕ) (b : Bool) (h : Held) (pointer : ℕ) (xs : List ℕ) �
 unfolding follow enter
 follow-under a b h pointer xs =
     either a (eqb pointer 254) _ _ tt
-    (either a (b && fits (h .octets) pointer xs) _ _ (feed-under a xs (holding h []) tt)
-    (either a (eqb pointer 255) _ _ tt (feed-under a (drop pointer xs) (holding nothing []) tt)))
+    (either a (b && fits (h .octets) pointer xs) _ _ (feed-under a xs (holding h [] 0) tt)
+    (either a (eqb pointer 255) _ _ tt (feed-under a (drop pointer xs) (holding nothing [] _) tt)))
 
 loss-under : (a n : ℕ) (b : Bool) (h : Held) (pointer : ℕ) (xs : List ℕ) → Under a (afterLoss a n b h pointer xs .packets)
 loss-under a zero b h pointer xs = follow-under a b h pointer xs
@@ -46,7 +46,7 @@ loss-under a (suc n) b h pointer xs = follow-under a false nothing pointer xs
 
 pub step-fields : StepFields
 unfolding step
-step-fields a c f = record { lost = refl; packets = refl; last = refl; inStep = refl; held = refl }
+step-fields a c f = record { lost = refl; headers = refl; packets = refl; last = refl; inStep = refl; held = refl }
 
 pub step-arrivals : StepArrivals
 step-arrivals a c f =

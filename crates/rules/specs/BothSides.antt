@@ -2,12 +2,13 @@
 use Prim.Native.Nat.{ℕ, suc, _-_}
 use mathlib.Core.Path.{_≡_}
 use mathlib.Core.List.{List, [], _∷_, _++_}
-use lib.ListN.{take, drop, replicate}
+use lib.ListN.{length, take, drop, replicate}
 use mathlib.Core.Bool.{true, false}
 use mathlib.Core.Option.{some}
 use Rattle.counts.specs.declared.Loss.{Loss}
 use Rattle.counts.specs.declared.Loss.the-variants.{Unknown, Known}
 use Rattle.rules.specs.Channel.{Piece, heldOf, nothing, Handed, given, Channel, fresh, step}
+use Rattle.rules.specs.Limits.{mostData}
 use Rattle.rules.specs.Bounds.{heldWrong}
 
 -- A packet of n octets whose others are all x.
@@ -46,6 +47,14 @@ one = packetOf 16 1
 abbrev two : List ℕ
 two = packetOf 30 2
 
+-- In step, with these octets held since frame 1 and the last count 0.
+abbrev pub within : List ℕ → Channel
+within octets = record { last = some 0; inStep = true; held = heldOf 1 octets }
+
+-- A frame's most octets of data: fifteen packets of 16 octets, and eleven octets of the next.
+abbrev pub full : List ℕ
+full = one ++ one ++ one ++ one ++ one ++ one ++ one ++ one ++ one ++ one ++ one ++ one ++ one ++ one ++ one ++ take 11 one
+
 pub record BothSides : Type 0 where
   -- Rules 3 and 5. A packet that ends with its data, then one whose header is split over three frames.
   pub split :
@@ -74,6 +83,20 @@ pub record BothSides : Type 0 where
   pub sixteen :
       replies (frame 0 0 (take 15 one) ∷ frame 1 1 (1 ∷ one ++ one ++ one ++ one ++ one ++ one ++ one ++ one ++ one ++ one ++ one ++ one ++ one ++ one ++ one) ∷ [])
       ≡ atFirst [] ∷ reply 0 (out 1 2 one ∷ replicate 15 (out 2 2 one)) ∷ []
+  -- Headers: a sixth octet reached counts, whatever becomes of the packet; one that was held before does not.
+  pub fifth : step 1 fresh (frame 0 0 (one ++ take 5 two)) .headers ≡ 1
+  pub sixth : step 1 fresh (frame 0 0 (one ++ take 6 two)) .headers ≡ 2
+  pub sixth-here : step 2 (within (take 5 one)) (frame 1 11 (drop 5 one ++ one)) .headers ≡ 2
+  pub sixth-held : step 2 (within (take 6 one)) (frame 1 10 (drop 6 one ++ one)) .headers ≡ 1
+  pub wrong-begun : step 1 fresh (frame 0 0 (one ++ packetOf 15 2 ++ one)) .headers ≡ 2
+  pub wrong-held : step 2 (within (take 5 (packetOf 15 1))) (frame 1 255 (drop 5 (packetOf 15 1))) .headers ≡ 1
+  pub wrong-pointer : step 2 (within (take 5 one)) (frame 1 255 (drop 5 one ++ one)) .headers ≡ 1
+  pub lost-held : step 2 (within (take 5 one)) (frame 2 255 (drop 5 one)) .headers ≡ 0
+  pub raw-held : step 2 (within (take 5 one)) (frame 1 254 two) .headers ≡ 0
+  -- The most of a frame by the rules; and of any, where rules 3 and 4 read the same octets.
+  pub sixteen-headers : step 1 fresh (frame 0 0 full) .headers ≡ 16
+  pub seventeen-headers : step 2 (within (take 5 one)) (frame 1 0 full) .headers ≡ 17
+  pub most-data : length full ≡ mostData
   -- A first number that a channel was handed in with: as it stands while octets are held, 0 with none.
   pub handed-in : step 5 (record { last = some 3; inStep = true; held = heldOf 9 (take 10 one) }) (frame 4 255 (drop 10 one)) .packets ≡ out 9 5 one ∷ []
   pub none-held : step 5 (record { last = some 3; inStep = true; held = heldOf 9 [] }) (frame 4 254 two) .next .held ≡ nothing

@@ -5,7 +5,7 @@ use mathlib.Core.List.{List, [], _∷_, _++_}
 use mathlib.Core.Bool.{Bool, true, false, not, _&&_, _||_}
 use lib.ListN.{length, take}
 use lib.Dec.{leb, ltb}
-use Rattle.rules.specs.Limits.{mostHeld, mostData, mostPackets, mostOctets}
+use Rattle.rules.specs.Limits.{mostHeld, mostData, mostPackets, mostOctets, mostHeaders}
 use Rattle.rules.specs.Channel.{Piece, Handed, allowed, lengthIn, standing, unfinished, Channel, fresh, Answer, step}
 use Rattle.rules.specs.Packets.{AllGood, joined, bare}
 
@@ -33,13 +33,14 @@ abbrev pub FreshSound : Type 0
 FreshSound = Sound (fresh .inStep) (fresh .held .octets)
 
 -- After a step the channel is sound and holds at most 250 octets; what is handed out are packets of 16 to 251 octets that say their
--- own length, at most 16 of them and at most 501 octets.
+-- own length, at most 16 of them and at most 501 octets; and at most 17 headers were completed.
 pub record Bounded (a : Answer) : Type 0 where
   pub sound : Sound (a .next .inStep) (a .next .held .octets)
   pub held : length (a .next .held .octets) ≤ mostHeld
   pub good : AllGood (bare (a .packets))
   pub packets : length (bare (a .packets)) ≤ mostPackets
   pub octets : length (joined (bare (a .packets))) ≤ mostOctets
+  pub headers : a .headers ≤ mostHeaders
 
 abbrev pub StepBounded : Type 0
 StepBounded = (a : ℕ) (c : Channel) (f : Piece) → Sound (c .inStep) (c .held .octets) → length (f .octets) ≤ mostData → Bounded (step a c f)

@@ -68,26 +68,34 @@ pub record Handed : Type 0 where
 abbrev pub given : ℕ → Held → Handed
 given a h = record { first = h .first; arrival = a; packet = h .octets }
 
--- What the rules work on: in step or not, what is held, the packets handed out.
+-- What the rules work on: in step or not, what is held, the packets handed out, and how many headers were completed in this frame.
 pub record Work : Type 0 where
   pub inStep : Bool
   pub held : Held
   pub packets : List Handed
+  pub headers : ℕ
 
-abbrev pub outOfStep : List Handed → Work
-outOfStep ps = record { inStep = false; held = nothing; packets = ps }
+abbrev pub outOfStep : List Handed → ℕ → Work
+outOfStep ps n = record { inStep = false; held = nothing; packets = ps; headers = n }
 
-abbrev pub holding : Held → List Handed → Work
-holding h ps = record { inStep = true; held = h; packets = ps }
+abbrev pub holding : Held → List Handed → ℕ → Work
+holding h ps n = record { inStep = true; held = h; packets = ps; headers = n }
 
 -- Rule 5, an octet of the frame with arrival number a at a time: in step it goes to the held ones, out of step it is skipped.
-abbrev pub settle : ℕ → Standing → Held → List Handed → Work
-settle a unfinished h ps = holding h ps
-settle a whole h ps = holding nothing (ps ++ given a h ∷ [])
-settle a wrong h ps = outOfStep ps
+abbrev pub settle : ℕ → Standing → Held → List Handed → ℕ → Work
+settle a unfinished h ps n = holding h ps n
+settle a whole h ps n = holding nothing (ps ++ given a h ∷ []) n
+settle a wrong h ps n = outOfStep ps n
+
+-- A header more, where the next octet is the packet's sixth.
+abbrev pub sixth : List ℕ → ℕ → ℕ
+sixth held n = cond (eqb (length held) 5) (suc n) n
 
 unfoldable pub push : ℕ → Work → ℕ → Work
-push a w x = cond (w .inStep) (settle a (standing (grown a (w .held) x .octets)) (grown a (w .held) x) (w .packets)) w
+push a w x =
+    cond (w .inStep)
+    (settle a (standing (grown a (w .held) x .octets)) (grown a (w .held) x) (w .packets) (sixth (w .held .octets) (w .headers)))
+    w
 
 abbrev pub feed : ℕ → Work → List ℕ → Work
 feed a w [] = w
@@ -112,15 +120,21 @@ lengthHolds (h ∷ hs) xs = cond (ltb (length (h ∷ hs ++ xs)) 6) true (allowed
 abbrev pub fits : List ℕ → ℕ → List ℕ → Bool
 fits held pointer xs = lengthHolds held xs && eqb pointer (pointerTo (placeAfter held xs) (length xs))
 
--- Rule 4, and what rule 5 makes of it.
-unfoldable pub enter : ℕ → ℕ → List ℕ → Work
-enter a pointer xs = cond (eqb pointer noneStarts) (outOfStep []) (feed a (holding nothing []) (drop pointer xs))
+-- Rule 3. The headers completed in what is held and the data, where that is dropped: one, if some but not six octets were held and the
+-- data brings the sixth.
+abbrev pub dropped : List ℕ → List ℕ → ℕ
+dropped held xs = cond (ltb 0 (length held) && ltb (length held) 6 && leb 6 (length held + length xs)) 1 0
+
+-- Rule 4, and what rule 5 makes of it; n headers were completed before.
+unfoldable pub enter : ℕ → ℕ → ℕ → List ℕ → Work
+enter a n pointer xs = cond (eqb pointer noneStarts) (outOfStep [] n) (feed a (holding nothing [] n) (drop pointer xs))
 
 -- Rules 2 to 5, for the frame with arrival number a.
 unfoldable pub follow : ℕ → Bool → Held → ℕ → List ℕ → Work
 follow a inStep h pointer xs =
-    cond (eqb pointer rawData) (record { inStep = inStep; held = h; packets = [] })
-    (cond (inStep && fits (h .octets) pointer xs) (feed a (holding h []) xs) (enter a pointer xs))
+    cond (eqb pointer rawData) (record { inStep = inStep; held = h; packets = []; headers = 0 })
+    (cond (inStep && fits (h .octets) pointer xs) (feed a (holding h [] 0) xs)
+    (enter a (cond inStep (dropped (h .octets) xs) 0) pointer xs))
 
 -- A channel: its last count if it had a frame, in step or not, and what is held.
 pub record Channel : Type 0 where
@@ -137,15 +151,21 @@ abbrev pub afterLoss : ℕ → ℕ → Bool → Held → ℕ → List ℕ → Wo
 afterLoss a zero inStep h pointer xs = follow a inStep h pointer xs
 afterLoss a (suc n) inStep h pointer xs = follow a false nothing pointer xs
 
--- What the channel answers to a frame: lost frames, packets handed out, and the channel afterwards.
+-- What the channel answers to a frame: lost frames, headers completed, packets handed out, and the channel afterwards.
 pub record Answer : Type 0 where
   pub lost : Loss
+  pub headers : ℕ
   pub packets : List Handed
   pub next : Channel
 
 abbrev pub answer : ℕ → Loss → Work → Answer
 answer count lost w =
-    record { lost = lost; packets = w .packets; next = record { last = some count; inStep = w .inStep; held = cleared (w .held) } }
+    record {
+      lost = lost;
+      headers = w .headers;
+      packets = w .packets;
+      next = record { last = some count; inStep = w .inStep; held = cleared (w .held) };
+    }
 
 -- The frame f, offered under the arrival number a.
 unfoldable pub step : ℕ → Channel → Piece → Answer

@@ -16,6 +16,13 @@ mostPackets = 16
 abbrev pub mostOctets : ℕ
 mostOctets = 501
 
+-- The packet headers that one frame completes, and those of one by the rules.
+abbrev pub mostHeaders : ℕ
+mostHeaders = 17
+
+abbrev pub mostSent : ℕ
+mostSent = 16
+
 -- The virtual channels of a session.
 abbrev pub virtualChannels : ℕ
 virtualChannels = 8

@@ -11,6 +11,7 @@ worked a c f = afterLoss a (number (lostSince (c .last) (f .count))) (c .inStep)
 
 pub record Fields (a : ℕ) (c : Channel) (f : Piece) : Type 0 where
   pub lost : step a c f .lost ≡ lostSince (c .last) (f .count)
+  pub headers : step a c f .headers ≡ worked a c f .headers
   pub packets : step a c f .packets ≡ worked a c f .packets
   pub last : step a c f .next .last ≡ some (f .count)
   pub inStep : step a c f .next .inStep ≡ worked a c f .inStep

@@ -1,4 +1,4 @@
--- A step hands out at most 16 packets and 501 octets, all under its arrival number, and tells how many.
+-- A step completes at most 17 headers and hands out at most 16 packets and 501 octets, all under its arrival number, and tells how many.
 use mathlib.Core.Path.{_≡_, refl}
 use mathlib.Core.List.{List}
 use mathlib.Core.Bool.{false}
@@ -25,9 +25,10 @@ pub record Few (o : Outcome) : Type 0 where
   pub used : Under (o .session .arrival) (o .packets)
   pub packets : length (bare (o .packets)) ≤ 16
   pub octets : length (joined (bare (o .packets))) ≤ 501
+  pub headers : o .answer .fields .headers ≤ 17
 
 refused-few : (s : Session) (n octet : ℕ) → Few (refusedAt s n octet)
-refused-few s n octet = record { count = refl; under = tt; used = tt; packets = omega arith; octets = omega arith }
+refused-few s n octet = record { count = refl; under = tt; used = tt; packets = omega arith; octets = omega arith; headers = omega arith }
 
 pub ruled-arrivals : (s : Session) (f : Frame) (d : List ℕ) → Under (s .arrival) (ruled s f d .packets)
 unfolding ruled
@@ -37,7 +38,7 @@ accepted-few : (s : Session) (f : Frame) (d : List ℕ) → unsound s ≡ false 
 unfolding accepted
 accepted-few s f d u l =
     let b : Bounded (ruled s f d) = ruled-bounded s f d u l in
-    record { count = refl; under = ruled-arrivals s f d; used = ruled-arrivals s f d; packets = b .packets; octets = b .octets }
+    record { count = refl; under = ruled-arrivals s f d; used = ruled-arrivals s f d; packets = b .packets; octets = b .octets; headers = b .headers }
 
 heeded-few : (s : Session) (frame : List ℕ) → unsound s ≡ false → Few (heeded s frame (readFrame (s .t) frame))
 heeded-few s frame u =

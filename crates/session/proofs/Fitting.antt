@@ -1,15 +1,15 @@
 -- Rule 3 by the tests that the code makes, and what a packet that is held says of itself.
 use Prim.Native.Nat.{ℕ, _+_, _-_, _≤_, _<_}
 use native.Mathlib.Omega.{arith}
-use mathlib.Core.Path.{_≡_, refl, ap}
-use mathlib.Core.Bool.{Bool, true, false, not, _||_}
+use mathlib.Core.Path.{_≡_, refl, sym, ap, _∙_}
+use mathlib.Core.Bool.{Bool, true, false, not, _&&_, _||_, cond}
 use mathlib.Core.Logic.{⊎-elim}
 use mathlib.Core.List.{List, [], _∷_, _++_}
 use lib.ListN.{length, length-append}
-use lib.Dec.{ltb, eqb}
+use lib.Dec.{leb, ltb, eqb}
 use borrow.Author.Tests.{lt-ltb, le-ltb, le-leb, lt-leb, ltb-true, ltb-false}
 use Rattle.octets.proofs.Tests.{or-left, or-right, or-true}
-use Rattle.rules.specs.Channel.{standing, unfinished, wrong, allowed, lengthIn, lengthHolds, placeAfter, pointerTo, fits}
+use Rattle.rules.specs.Channel.{standing, unfinished, wrong, allowed, lengthIn, lengthHolds, placeAfter, pointerTo, fits, dropped}
 use Rattle.rules.proofs.Standing.{View, short, more, done, bad, view, not-whole, not-wrong, length-said}
 
 -- a length outside 16 to 251
@@ -71,3 +71,15 @@ pub fits-known : (h d : List ℕ) (p : ℕ) → (length h ≡ 0 → ⊥) → 6 �
 unfolding lengthHolds placeAfter
 fits-known [] d p n l w = absurd (n refl)
 fits-known (x ∷ h) d p n l w = simp (le-ltb (length (x ∷ h ++ d)) 6 (simp length-append (omega arith)), inside (lengthIn (x ∷ h ++ d)) w)
+
+-- rule 3's drop by the code's test
+four : (i a b c : Bool) → _≡_ {A = ℕ} (cond (((i && a) && b) && c) 1 0) (cond i (cond (a && b && c) 1 0) 0)
+four true true true c = refl
+four true true false c = refl
+four true false b c = refl
+four false a b c = refl
+
+pub dropped-is : (i : Bool) (held xs : List ℕ) (t : Bool) → (((i && ltb 0 (length held)) && ltb (length held) 6) && leb 6 (length held + length xs)) ≡ t
+    → cond t 1 0 ≡ cond i (dropped held xs) 0
+dropped-is i held xs t e =
+    ap {B = ℕ} (λ (b : Bool). cond b 1 0) (sym e) ∙ four i (ltb 0 (length held)) (ltb (length held) 6) (leb 6 (length held + length xs))

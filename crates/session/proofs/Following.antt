@@ -11,12 +11,12 @@ use lib.Dec.{eqb}
 use borrow.Author.Tests.{eq-eqb, ne-eqb}
 use Rattle.counts.specs.declared.Loss.{Loss}
 use Rattle.counts.specs.Lost.{lastOf, lostSince, number}
-use Rattle.rules.specs.Channel.{heldOf, begunIn, cleared, nothing, Work, outOfStep, holding, feed, fits, enter, follow, afterLoss, step}
+use Rattle.rules.specs.Channel.{heldOf, begunIn, cleared, nothing, Work, outOfStep, holding, feed, fits, dropped, enter, follow, afterLoss, step}
 use Rattle.rules.specs.Bounds.{Sound}
 use Rattle.rules.specs.Packets.{bare}
 use Rattle.rules.specs.Cutting.{Cut}
 use Rattle.rules.proofs.Standing.{empty-unfinished}
-use Rattle.rules.proofs.Bounds.{sound-standing, sound-held, passing-sound, step-bounded}
+use Rattle.rules.proofs.Bounds.{sound-standing, sound-held, passing-sound, dropped-most, step-bounded}
 use Rattle.rules.proofs.Cutting.{cuts-on}
 use Rattle.session.specs.Channel.{view, channelOf, stored, channelUnsound}
 use Rattle.session.specs.Lent.{Lent, laid}
@@ -32,7 +32,7 @@ use Rattle.session.proofs.Soundness.{held-most}
 
 -- What is left of a frame's work in the channel: with nothing held, whatever number was kept.
 abbrev clearedBy : Work → Work
-clearedBy w = record { inStep = w .inStep; held = cleared (w .held); packets = w .packets }
+clearedBy w = record { inStep = w .inStep; held = cleared (w .held); packets = w .packets; headers = w .headers }
 
 -- after it, the others go on in step or not with the first k of the channel's octets
 pub record Carries (c : Channel) (lost k : ℕ) (inStep : Bool) : Type 0 where
@@ -47,8 +47,8 @@ unfolding follow
 forgets a first pointer xs = go (eqb pointer 254)
   where
     go : (b : Bool)
-        → clearedBy (cond b (record { inStep = false; held = nothing; packets = [] }) (enter a pointer xs))
-        ≡ clearedBy (cond b (record { inStep = false; held = heldOf first []; packets = [] }) (enter a pointer xs))
+        → clearedBy (cond b (record { inStep = false; held = nothing; packets = []; headers = 0 }) (enter a 0 pointer xs))
+        ≡ clearedBy (cond b (record { inStep = false; held = heldOf first []; packets = []; headers = 0 }) (enter a 0 pointer xs))
     go true = refl
     go false = refl
 
@@ -75,7 +75,7 @@ carries-all c zero k b u h l ek eb =
 pub steps : (c : Channel) (lost : Loss) (k : ℕ) (inStep : Bool) → Carries c (number lost) k inStep → (head : Head) (xs : List ℕ) (r : Followed)
     (l l′ : Lent) → lost ≡ lostSince (lastOf (c .heard) (c .last .0)) (head .count .0)
     → Follows (head .count .0) (follow (head .arrival) inStep (heldOf (c .first) (take k (c .held))) (head .pointer) xs) r l l′
-    → Heeds (step (head .arrival) (view c) (headed head xs)) (record { channel = r .channel; lost = lost; packets = r .packets }) l l′
+    → Heeds (step (head .arrival) (view c) (headed head xs)) (record { channel = r .channel; lost = lost; packets = r .packets; headers = r .headers }) l l′
 unfolding step view
 steps c lost k inStep w head xs r l l′ e h =
     let work : clearedBy (follow (head .arrival) inStep (heldOf (c .first) (take k (c .held))) (head .pointer) xs)
@@ -86,50 +86,56 @@ steps c lost k inStep w head xs r l l′ e h =
       channel = h .channel ∙ ap (λ (x : Work). stored (channelOf (head .count .0) (x .inStep) (x .held))) work;
       lost = e;
       packets = h .packets ∙ ap (λ (x : Work). length (x .packets)) work;
+      headers = h .headers ∙ ap (λ (x : Work). x .headers) work;
       leaves = h .leaves ∙ ap (λ (x : Work). laid (x .packets) l) work;
     }
 
 -- ---- rules 2 to 4
 
--- rule 5 is given the first k of the octets held, begun in frame `from`, and the data from at on; out of step if no packet goes on or
--- starts
-pub record Parts (inStep : Bool) (first : ℕ) (held : List ℕ) (a pointer : ℕ) (xs : List ℕ) (l : Lent) (k from at : ℕ) (on : Bool) : Type 0 where
+-- rule 5 is given the first k of the octets held, begun in frame `from`, the data from at on, and the headers completed in what was
+-- dropped; out of step if no packet goes on or starts
+pub record Parts (inStep : Bool) (first : ℕ) (held : List ℕ) (a pointer : ℕ) (xs : List ℕ) (l : Lent) (k d from at : ℕ) (on : Bool) : Type 0 where
   pub front : k ≤ length held
   pub back : at ≤ length xs
-  pub taken : Taken (take k held) (take (length xs - at) (drop at xs)) l
+  pub taken : Taken d (take k held) (take (length xs - at) (drop at xs)) l
   pub number : ℕ
   pub begun : from ≡ begunIn a number (length (take k held))
   pub work : follow a inStep (heldOf first held) pointer xs
-      ≡ inStepIf on (feed a (holding (heldOf number (take k held)) []) (take (length xs - at) (drop at xs)))
+      ≡ inStepIf on (feed a (holding (heldOf number (take k held)) [] d) (take (length xs - at) (drop at xs)))
 
 module _ (inStep : Bool) (first : ℕ) (held : List ℕ) (a pointer : ℕ) (xs : List ℕ) where
   abbrev followed : Work
   followed = follow a inStep (heldOf first held) pointer xs
 
-  is-raw : pointer ≡ 254 → followed ≡ record { inStep = inStep; held = heldOf first held; packets = [] }
+  is-raw : pointer ≡ 254 → followed ≡ record { inStep = inStep; held = heldOf first held; packets = []; headers = 0 }
   unfolding follow
   is-raw e = simp (eq-eqb _ _ e)
 
-  is-on : (pointer ≡ 254 → ⊥) → (inStep && fits held pointer xs) ≡ true → followed ≡ feed a (holding (heldOf first held) []) xs
+  is-on : (pointer ≡ 254 → ⊥) → (inStep && fits held pointer xs) ≡ true → followed ≡ feed a (holding (heldOf first held) [] 0) xs
   unfolding follow
   is-on n e = simp (ne-eqb _ _ n, e)
 
-  is-skipped : (pointer ≡ 254 → ⊥) → (inStep && fits held pointer xs) ≡ false → pointer ≡ 255 → followed ≡ outOfStep []
+  -- what rule 3 drops
+  abbrev lost : ℕ
+  lost = cond inStep (dropped held xs) 0
+
+  is-skipped : (pointer ≡ 254 → ⊥) → (inStep && fits held pointer xs) ≡ false → pointer ≡ 255 → followed ≡ outOfStep [] lost
   unfolding follow enter
   is-skipped n e p = simp (ne-eqb _ _ n, e, eq-eqb _ _ p)
 
   is-entered : (pointer ≡ 254 → ⊥) → (inStep && fits held pointer xs) ≡ false → (pointer ≡ 255 → ⊥)
-      → followed ≡ feed a (holding nothing []) (drop pointer xs)
+      → followed ≡ feed a (holding nothing [] lost) (drop pointer xs)
   unfolding follow enter
   is-entered n e p = simp (ne-eqb _ _ n, e, ne-eqb _ _ p)
 
   pub follows-raw : (count : ℕ) (l : Lent) (x : Channel) → pointer ≡ 254 → x ≡ stored (channelOf count inStep (cleared (heldOf first (held ++ []))))
-      → Follows count followed (record { channel = x; packets = 0 }) l l
+      → Follows count followed (record { channel = x; packets = 0; headers = 0 }) l l
   follows-raw count l x e h =
-      subst (λ (w : Work). Follows count w (record { channel = x; packets = 0 }) l l) (sym (is-raw e))
+      subst (λ (w : Work). Follows count w (record { channel = x; packets = 0; headers = 0 }) l l) (sym (is-raw e))
       (record {
         channel = h ∙ ap (λ (o : List ℕ). stored (channelOf count inStep (cleared (heldOf first o)))) (append-nil held);
         packets = refl;
+        headers = refl;
         leaves = refl;
       })
 
@@ -150,48 +156,50 @@ module _ (inStep : Bool) (first : ℕ) (held : List ℕ) (a pointer : ℕ) (xs :
         step-bounded a (record { last = option.none; inStep = inStep; held = heldOf first held }) (record { count = 0; pointer = pointer; octets = xs })
         (f .sound) (f .heard .few) .packets
 
-    to-take : (on : Bool) (g : ℕ) (h d : List ℕ) → Begun h d → followed ≡ inStepIf on (feed a (holding (heldOf g h) []) d) → Taken h d l
-    to-take on g h d b e = record {
+    to-take : (on : Bool) (g n : ℕ) (h d : List ℕ) → n ≤ 1 → Begun h d → followed ≡ inStepIf on (feed a (holding (heldOf g h) [] n) d) → Taken n h d l
+    to-take on g n h d o b e = record {
+      one = o;
       begun = b;
       most = subst (λ (ps : List (List ℕ)). length ps ≤ 16)
-          (ap (λ (w : Work). bare (w .packets)) e ∙ ap (λ (x : Cut). x .packets) (cuts-on a (heldOf g h) [] d (b .unfinished)))
+          (ap (λ (w : Work). bare (w .packets)) e ∙ ap (λ (x : Cut). x .packets) (cuts-on a n (heldOf g h) d (b .unfinished)))
           most;
       room = f .heard .room;
     }
 
-    module _ (k from at : ℕ) (on : Bool) (n : pointer ≡ 254 → ⊥) where
+    module _ (k dr from at : ℕ) (on : Bool) (n : pointer ≡ 254 → ⊥) where
       abbrev Given : Type 0
-      Given = Parts inStep first held a pointer xs l k from at on
+      Given = Parts inStep first held a pointer xs l k dr from at on
 
-      parts : (g : ℕ) (h d : List ℕ) → take k held ≡ h → drop at xs ≡ d → k ≤ length held → at ≤ length xs → Begun h d
-          → from ≡ begunIn a g (length h) → followed ≡ inStepIf on (feed a (holding (heldOf g h) []) d) → Given
-      parts g h d eh ed front back b s w =
+      parts : (g : ℕ) (h d : List ℕ) → dr ≤ 1 → take k held ≡ h → drop at xs ≡ d → k ≤ length held → at ≤ length xs → Begun h d
+          → from ≡ begunIn a g (length h) → followed ≡ inStepIf on (feed a (holding (heldOf g h) [] dr) d) → Given
+      parts g h d o eh ed front back b s w =
           let e : take (length xs - at) (drop at xs) ≡ d = to-end xs at ∙ ed in
-          record { front = front; back = back; taken = rw (eh, e) (to-take on g h d b w); number = g; begun = rw eh s; work = rw (eh, e) w }
+          record { front = front; back = back; taken = rw (eh, e) (to-take on g dr h d o b w); number = g; begun = rw eh s; work = rw (eh, e) w }
 
-      pub parts-all : (inStep && fits held pointer xs) ≡ true → k ≡ length held → from ≡ begunIn a first (length held) → at ≡ 0 → on ≡ true → Given
-      parts-all e ek ef ea es =
-          parts first held xs (take-all k held (omega arith)) (ap (λ (i : ℕ). drop i xs) ea) (omega arith) (omega arith) to-fit ef
-          (rw es (is-on n e))
+      pub parts-all : (inStep && fits held pointer xs) ≡ true → k ≡ length held → dr ≡ 0 → from ≡ begunIn a first (length held) → at ≡ 0 → on ≡ true
+          → Given
+      parts-all e ek en ef ea es =
+          parts first held xs (omega arith) (take-all k held (omega arith)) (ap (λ (i : ℕ). drop i xs) ea) (omega arith) (omega arith) to-fit ef
+          (rw (es, en) (is-on n e))
 
-      module _ (e : (inStep && fits held pointer xs) ≡ false) (ek : k ≡ 0) (ef : from ≡ a) where
+      module _ (e : (inStep && fits held pointer xs) ≡ false) (ek : k ≡ 0) (en : dr ≡ lost) (ef : from ≡ a) where
         -- nothing held
-        none : (d : List ℕ) → drop at xs ≡ d → at ≤ length xs → followed ≡ inStepIf on (feed a (holding nothing []) d) → Given
+        none : (d : List ℕ) → drop at xs ≡ d → at ≤ length xs → followed ≡ inStepIf on (feed a (holding nothing [] dr) d) → Given
         none d ed back w =
-            parts 0 [] d (ap (λ (i : ℕ). take i held) ek) ed (omega arith) back
+            parts 0 [] d (omega (arith, dropped-most inStep held xs)) (ap (λ (i : ℕ). take i held) ek) ed (omega arith) back
             (record { unfinished = empty-unfinished; short = omega arith; few = omega (arith, length-drop at xs, ap length ed, f .heard .few) }) ef w
 
         pub parts-none : pointer ≡ 255 → at ≡ length xs → on ≡ false → Given
-        parts-none p ea es = none [] (drop-of-length-le xs {i = at} (omega arith)) (omega arith) (rw es (is-skipped n e p))
+        parts-none p ea es = none [] (drop-of-length-le xs {i = at} (omega arith)) (omega arith) (rw (es, en) (is-skipped n e p))
 
         pub parts-entered : (pointer ≡ 255 → ⊥) → at ≡ pointer → on ≡ true → Given
         parts-entered p ea es =
-            none (drop pointer xs) (ap (λ (i : ℕ). drop i xs) ea) (omega (arith, f .heard .points n p)) (rw es (is-entered n e p))
+            none (drop pointer xs) (ap (λ (i : ℕ). drop i xs) ea) (omega (arith, f .heard .points n p)) (rw (es, en) (is-entered n e p))
 
 -- what rule 5 does is what rules 2 to 5 do
-pub follows-taken : (head : Head) (inStep : Bool) (first : ℕ) (held xs : List ℕ) (l l′ : Lent) (k from at : ℕ) (on : Bool) (r : Followed)
-    → Parts inStep first held (head .arrival) (head .pointer) xs l k from at on
-    → Takes head on from (take k held) (take (length xs - at) (drop at xs)) r l l′
+pub follows-taken : (head : Head) (inStep : Bool) (first : ℕ) (held xs : List ℕ) (l l′ : Lent) (k d from at : ℕ) (on : Bool) (r : Followed)
+    → Parts inStep first held (head .arrival) (head .pointer) xs l k d from at on
+    → Takes head on d from (take k held) (take (length xs - at) (drop at xs)) r l l′
     → Follows (head .count .0) (follow (head .arrival) inStep (heldOf first held) (head .pointer) xs) r l l′
-follows-taken head inStep first held xs l l′ k from at on r p t =
+follows-taken head inStep first held xs l l′ k d from at on r p t =
     subst (λ (w : Work). Follows (head .count .0) w r l l′) (sym (p .work)) (t (p .number) (p .begun))

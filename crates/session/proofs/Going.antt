@@ -12,10 +12,10 @@ use lib.Seq.{length-take-le, drop-drop, take-nil}
 use Rattle.octets.specs.Parts.{written}
 use Rattle.rules.specs.Channel.{standing, unfinished, whole, wrong, lengthIn}
 use Rattle.rules.specs.Packets.{joined}
-use Rattle.rules.specs.Cutting.{Cut, cutOf, behind, firstsOf, firstBehind}
+use Rattle.rules.specs.Cutting.{Cut, cutOf, behind, header, firstsOf, firstBehind}
 use Rattle.rules.proofs.Bounds.{joined-append, sound-held}
 use Rattle.rules.proofs.Standing.{Order, upTo, past, order, standing-short, standing-part, standing-full}
-use Rattle.rules.proofs.Cutting.{Whole, whole-size, cuts-unfinished, cuts-wrong, cuts-whole}
+use Rattle.rules.proofs.Cutting.{header-less, header-more, Whole, whole-size, cuts-unfinished, cuts-wrong, cuts-whole, behind-none, behind-more}
 use Rattle.session.specs.Asked.{Counted, Left}
 use Rattle.session.specs.Promised.{Cuts}
 use Rattle.session.proofs.Entries.{same-length, entered, length-firsts, firsts-more}
@@ -71,7 +71,7 @@ going-start f a held xs lengths firsts = record {
   done = [];
   count = refl;
   front = refl;
-  cont = refl;
+  cont = behind-none (cutOf (held ++ xs));
   small = omega arith;
   few = omega arith;
   wrote = refl;
@@ -107,7 +107,8 @@ module _ (f a : ℕ) (held xs lengths₀ firsts₀ lengths firsts : List ℕ) (f
     cut-more : cutOf s ≡ behind (g .done ++ take n (drop at s) ∷ []) (cutOf (drop (at + n) s))
     cut-more =
         g .cont ∙ ap (behind (g .done)) (cuts-whole (drop at s) w)
-        ∙ simp (append-assoc, drop-drop)
+        ∙ behind-more (g .done) (take n (drop at s)) (cutOf (drop n (drop at s)))
+        ∙ ap (λ (l : List ℕ). behind (g .done ++ take n (drop at s) ∷ []) (cutOf l)) (drop-drop n at s)
 
     -- a packet more has an entry
     going-room : (m : ℕ) → length (cutOf s .packets) ≤ m → packets < m
@@ -154,10 +155,12 @@ module _ (f a : ℕ) (held xs lengths₀ firsts₀ lengths firsts : List ℕ) (f
     }
 
   -- where the packets end, what is left is held, or a wrong length drops it
-  stops : (b : Bool) (left : List ℕ) (kept : ℕ) → cutOf (drop at s) ≡ record { inStep = b; held = left; packets = [] } → left ≡ drop kept s
-      → Left held xs kept → Cuts f a held xs (record { packets = packets; octets = at; kept = kept; first = from; instep = b }) lengths₀ firsts₀ lengths firsts
-  stops b left kept h r l =
-      let e : cutOf s ≡ record { inStep = b; held = left; packets = g .done } = g .cont ∙ ap (behind (g .done)) h ∙ simp append-nil in
+  stops : (b : Bool) (left : List ℕ) (kept m headers : ℕ) → cutOf (drop at s) ≡ record { inStep = b; held = left; packets = []; headers = m }
+      → m ≤ 1 → headers ≡ packets + m → left ≡ drop kept s → Left held xs kept
+      → Cuts f a held xs (record { packets = packets; octets = at; kept = kept; first = from; headers = headers; instep = b }) lengths₀ firsts₀ lengths firsts
+  stops b left kept m headers h o n r l =
+      let e : cutOf s ≡ record { inStep = b; held = left; packets = g .done; headers = length (g .done) + m } =
+      g .cont ∙ ap (behind (g .done)) h ∙ simp append-nil in
       record {
         packets = sym (ap (λ (c : Cut). length (c .packets)) e ∙ g .count);
         front = ap (λ (c : Cut). joined (c .packets)) e ∙ g .front;
@@ -167,27 +170,32 @@ module _ (f a : ℕ) (held xs lengths₀ firsts₀ lengths firsts : List ℕ) (f
         within = g .within;
         past = g .past;
         first = g .begins;
+        headers = omega (arith, n, g .count, ap (λ (c : Cut). c .headers) e);
+        few = omega arith;
         lengths = g .wrote ∙ ap (λ (c : Cut). written (map length (c .packets)) lengths₀) (sym e);
         firsts = g .numbered;
       }
 
-  -- the same where the next packet is not whole, or its length is wrong
-  abbrev Held : Type 0
-  Held = Cuts f a held xs (record { packets = packets; octets = at; kept = at; first = from; instep = true }) lengths₀ firsts₀ lengths firsts
+  -- the same where the next packet is not whole, its header or not, or its length is wrong
+  abbrev Held : ℕ → Type 0
+  Held n =
+      Cuts f a held xs (record { packets = packets; octets = at; kept = at; first = from; headers = n; instep = true }) lengths₀ firsts₀ lengths firsts
 
   abbrev Dropped : Type 0
   Dropped =
-      Cuts f a held xs (record { packets = packets; octets = at; kept = length held + length xs; first = from; instep = false }) lengths₀ firsts₀ lengths firsts
+      Cuts f a held xs
+      (record { packets = packets; octets = at; kept = length held + length xs; first = from; headers = packets + 1; instep = false })
+      lengths₀ firsts₀ lengths firsts
 
-  going-unfinished : standing (drop at s) ≡ unfinished → Held
-  going-unfinished u =
-      stops true (drop at s) at (cuts-unfinished (drop at s) u) refl
+  going-unfinished : (m headers : ℕ) → header (length (drop at s)) ≡ m → m ≤ 1 → headers ≡ packets + m → standing (drop at s) ≡ unfinished → Held headers
+  going-unfinished m headers e o n u =
+      stops true (drop at s) at (header (length (drop at s))) headers (cuts-unfinished (drop at s) u) (omega arith) (omega arith) refl
       (record { within = g .within; past = g .past; short = sound-held true (drop at s) u })
 
   going-wrong : standing (drop at s) ≡ wrong → Dropped
   going-wrong u =
       let d : drop (length held + length xs) s ≡ [] = drop-of-length-le s {i = length held + length xs} (omega (arith, length-append held xs)) in
-      stops false [] (length held + length xs) (cuts-wrong (drop at s) u) (sym d)
+      stops false [] (length held + length xs) 1 (packets + 1) (cuts-wrong (drop at s) u) (omega arith) refl (sym d)
       (record { within = omega arith; past = λ h. absurd (omega arith); short = rw d (omega arith) })
 
   -- the same by the code's tests, n being the length that the packet says
@@ -195,9 +203,10 @@ module _ (f a : ℕ) (held xs lengths₀ firsts₀ lengths firsts : List ℕ) (f
     pub stops-wrong : 6 ≤ length held + length xs - at → (ltb n 16 || ltb 251 n) ≡ true → Dropped
     stops-wrong h t = going-wrong (standing-outside (drop at s) (omega (arith, ahead)) (rw e at (outside n t)))
 
-    pub stops-part : Within n → length held + length xs - at < n → Held
-    stops-part v h =
-        going-unfinished (standing-part (drop at s) (omega (arith, e, v .least)) (omega (arith, e, v .greatest)) (omega (arith, e, ahead)))
+    pub stops-part : 6 ≤ length held + length xs - at → Within n → length held + length xs - at < n → Held (packets + 1)
+    stops-part six v h =
+        going-unfinished 1 (packets + 1) (header-more (length (drop at s)) (omega (arith, ahead))) (omega arith) refl
+        (standing-part (drop at s) (omega (arith, e, v .least)) (omega (arith, e, v .greatest)) (omega (arith, e, ahead)))
 
     pub turn : Counted held xs lengths₀ firsts₀ → Within n → n ≤ length held + length xs - at
         → Turn f a held xs lengths₀ firsts₀ lengths firsts from packets at n
@@ -213,5 +222,5 @@ module _ (f a : ℕ) (held xs lengths₀ firsts₀ lengths firsts : List ℕ) (f
           on = subst (λ (m : ℕ). Going f a held xs lengths₀ firsts₀ (set lengths packets m) (set firsts packets from) a (packets + 1) (at + m)) (sym e) (going-on w k);
         }
 
-  pub stops-short : length held + length xs - at < 6 → Held
-  stops-short h = going-unfinished (standing-short (drop at s) (omega (arith, ahead)))
+  pub stops-short : length held + length xs - at < 6 → Held packets
+  stops-short h = going-unfinished 0 packets (header-less (length (drop at s)) (omega (arith, ahead))) (omega arith) (omega arith) (standing-short (drop at s) (omega (arith, ahead)))

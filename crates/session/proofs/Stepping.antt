@@ -40,13 +40,13 @@ module _ (s : Session) (f : Frame) (xs : List ℕ) (master : Loss) (c : Channel)
   pub gives-accepted : Gives (accepted s f xs)
       (record {
         session = record { t = s .t; arrival = s .arrival; master = f .master; heard = true; channels = set (s .channels) (f .channel) (r .channel) };
-        answer = answer.Accepted (record { arrival = s .arrival; channel = f .channel; lost = r .lost; master = master; packets = r .packets });
+        answer = answer.Accepted (record { arrival = s .arrival; channel = f .channel; lost = r .lost; master = master; packets = r .packets; headers = r .headers });
       })
       l l′
   unfolding accepted
   gives-accepted = record {
     session = simp (heeds .channel);
-    answers = simp (heeds .lost, em, heeds .packets);
+    answers = simp (heeds .lost, em, heeds .packets, heeds .headers);
     leaves = heeds .leaves;
   }
 

@@ -1,5 +1,5 @@
 -- Rule 5 as `cutOf` has it, and as `feed` has it.
-use Prim.Native.Nat.{ℕ, _≤_}
+use Prim.Native.Nat.{ℕ, _+_, _≤_}
 use native.Mathlib.Omega.{arith}
 use mathlib.Core.Path.{_≡_, sym, ap, _∙_, subst}
 use mathlib.Core.Bool.{Bool, _&&_}
@@ -8,23 +8,34 @@ use lib.ListN.{length, take, drop, length-map}
 use Rattle.octets.specs.Parts.{written}
 use Rattle.rules.specs.Channel.{heldOf, begunIn, cleared, Handed, Work, holding, feed}
 use Rattle.rules.specs.Packets.{bare, joined}
-use Rattle.rules.specs.Cutting.{Cut, cutBy, cutOf, firstsOf, firstBehind, Begins}
-use Rattle.rules.proofs.Cutting.{cuts-on, firsts-on}
+use Rattle.rules.specs.Cutting.{Cut, cutBy, cutOf, after, header, firstsOf, firstBehind, Begins}
+use Rattle.rules.proofs.Cutting.{header-more, cuts-on, firsts-on}
 use Rattle.session.specs.Channel.{channelOf, stored}
 use Rattle.session.specs.Lent.{lent}
-use Rattle.session.specs.Asked.{Taken, Counted, Front}
+use Rattle.session.specs.Asked.{Taken, Completed, Counted, Front}
 use Rattle.session.specs.Promised.{Cuts, inStepIf, Follows}
 use Rattle.session.specs.declared.Channel.{Channel}
 use Rattle.session.specs.declared.cutting.Found.{Found}
 use Rattle.session.proofs.Lending.{lent-same}
 
-module _ (held xs out lengths firsts : List ℕ) (t : Taken held xs (lent out lengths firsts)) where
+module _ (n : ℕ) (held xs out lengths firsts : List ℕ) (t : Taken n held xs (lent out lengths firsts)) where
   pub to-cut : Counted held xs lengths firsts
   to-cut = record { begun = t .begun; entries = omega (arith, t .most, t .room .lengths); numbers = omega (arith, t .most, t .room .firsts) }
 
   module _ (f a : ℕ) (r : Found) (lengths′ firsts′ : List ℕ) (k : Cuts f a held xs r lengths firsts lengths′ firsts′) where
     pub few-packets : r .packets ≤ 16
     few-packets = omega (arith, k .packets, t .most)
+
+    -- one that was held whole was found too
+    pub to-complete : Completed n (r .headers) (length held)
+    to-complete = record {
+      one = t .one;
+      few = omega (arith, few-packets, k .few);
+      some = λ l. omega (arith, k .headers, header-more (length held) l, ap (λ (c : Cut). c .headers) (cuts-on a 0 (heldOf 0 held) xs (t .begun .unfinished)));
+    }
+
+    pub few-headers : (m : ℕ) → header (length held) + m ≡ n + r .headers → m ≤ 255
+    few-headers m e = omega (arith, e, t .one, few-packets, k .few)
 
     pub to-hand-out : Front held xs (r .octets) out
     to-hand-out = record {
@@ -36,10 +47,10 @@ module _ (held xs out lengths firsts : List ℕ) (t : Taken held xs (lent out le
     -- g is kept with what is held
     module _ (g : ℕ) (begun : f ≡ begunIn a g (length held)) (count : ℕ) (b : Bool) (out′ : List ℕ) (o : out′ ≡ written (take (r .octets) (held ++ xs)) out) where
       abbrev work : Work
-      work = feed a (holding (heldOf g held) []) xs
+      work = feed a (holding (heldOf g held) [] n) xs
 
-      same : cutBy work ≡ cutOf (held ++ xs)
-      same = cuts-on a (heldOf g held) [] xs (t .begun .unfinished)
+      same : after [] (header (length held)) (cutBy work) ≡ after [] n (cutOf (held ++ xs))
+      same = cuts-on a n (heldOf g held) xs (t .begun .unfinished)
 
       in-step : work .inStep ≡ r .instep
       in-step = ap (λ (c : Cut). c .inStep) same ∙ sym (k .inStep)
@@ -54,7 +65,7 @@ module _ (held xs out lengths firsts : List ℕ) (t : Taken held xs (lent out le
       number = k .packets ∙ ap length (sym packets) ∙ length-map (work .packets) (λ (p : Handed). p .packet)
 
       begins : Begins f a work
-      begins = subst (λ (m : ℕ). Begins m a work) (sym begun) (firsts-on a (heldOf g held) xs)
+      begins = subst (λ (m : ℕ). Begins m a work) (sym begun) (firsts-on a n (heldOf g held) xs)
 
       -- what is left, with its first number
       left : cleared (heldOf (r .first) (drop (r .kept) (held ++ xs))) ≡ cleared (work .held)
@@ -63,14 +74,19 @@ module _ (held xs out lengths firsts : List ℕ) (t : Taken held xs (lent out le
           ∙ ap (λ (m : ℕ). cleared (heldOf m (work .held .octets))) (k .first ∙ ap (firstBehind f a) number)
           ∙ sym (begins .left)
 
-      pub takes : (x : Channel) → x ≡ stored (channelOf count (b && r .instep) (cleared (heldOf (r .first) (drop (r .kept) (held ++ xs)))))
-          → Follows count (inStepIf b work) (record { channel = x; packets = r .packets }) (lent out lengths firsts) (lent out′ lengths′ firsts′)
-      takes x e = record {
+      -- the headers of this frame
+      counts : (m : ℕ) → header (length held) + m ≡ n + r .headers → m ≡ work .headers
+      counts m e = omega (arith, e, k .headers, ap (λ (c : Cut). c .headers) same)
+
+      pub takes : (x : Channel) (m : ℕ) → header (length held) + m ≡ n + r .headers → x ≡ stored (channelOf count (b && r .instep) (cleared (heldOf (r .first) (drop (r .kept) (held ++ xs)))))
+          → Follows count (inStepIf b work) (record { channel = x; packets = r .packets; headers = m }) (lent out lengths firsts) (lent out′ lengths′ firsts′)
+      takes x m c e = record {
         channel =
             e
             ∙ ap (λ h. stored (channelOf count (b && r .instep) h)) left
             ∙ ap (λ (s : Bool). stored (channelOf count (b && s) (cleared (work .held)))) (sym in-step);
         packets = number;
+        headers = counts m c;
         leaves = lent-same
             (o ∙ ap (λ (l : List ℕ). written l out) (sym (ap joined packets ∙ k .front)))
             (k .lengths ∙ ap (λ (l : List (List ℕ)). written (map length l) lengths) (sym packets))

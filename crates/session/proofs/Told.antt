@@ -31,7 +31,7 @@ step-told-apart (steps.Refused n) (steps.Accepted a) h = refuse-or-accept h
 
 pub refusals-tell-0 : RefusalsTell0
 refusals-tell-0 (steps.Accepted a) h = absurd (true≢false h)
-refusals-tell-0 (steps.Refused n) h = record { arrival = refl; channel = refl; lost = refl; master = refl; packets = refl }
+refusals-tell-0 (steps.Refused n) h = record { arrival = refl; channel = refl; lost = refl; master = refl; packets = refl; headers = refl }
 
 pub refused-fresh : RefusedFresh
 unfolding opening.opening pick

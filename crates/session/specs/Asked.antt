@@ -37,8 +37,15 @@ pub record Left (held xs : List ℕ) (n : ℕ) : Type 0 where
   pub past : n < length held → n ≡ 0
   pub short : length (drop n (held ++ xs)) ≤ mostHeld
 
--- Room for all that is handed out.
-pub record Taken (held xs : List ℕ) (l : Lent) : Type 0 where
+-- A header at most in what was dropped, not many found, and one at least where six octets were held.
+pub record Completed (dropped found held : ℕ) : Type 0 where
+  pub one : dropped ≤ 1
+  pub few : found ≤ mostPackets + 1
+  pub some : 6 ≤ held → 1 ≤ found
+
+-- Room for all that is handed out; a header at most was dropped before.
+pub record Taken (dropped : ℕ) (held xs : List ℕ) (l : Lent) : Type 0 where
+  pub one : dropped ≤ 1
   pub begun : Begun held xs
   pub most : length (cutOf (held ++ xs) .packets) ≤ mostPackets
   pub room : Enough l

@@ -27,24 +27,28 @@ pub record Cuts (f a : ℕ) (held xs : List ℕ) (r : Found) (lengths₀ firsts�
   pub within : r .octets ≤ length held + length xs
   pub past : r .octets < length held → r .octets ≡ 0
   pub first : r .first ≡ firstBehind f a (r .packets)
+  pub headers : r .headers ≡ cutOf (held ++ xs) .headers
+  pub few : r .headers ≤ r .packets + 1
   pub lengths : lengths₁ ≡ written (map length (cutOf (held ++ xs) .packets)) lengths₀
   pub firsts : firsts₁ ≡ written (firstsOf f a (r .packets)) firsts₀
 
 -- Rule 5's work, in step only if b.
 abbrev pub inStepIf : Bool → Work → Work
-inStepIf b w = record { inStep = b && w .inStep; held = w .held; packets = w .packets }
+inStepIf b w = record { inStep = b && w .inStep; held = w .held; packets = w .packets; headers = w .headers }
 
 -- A channel after a frame with this count, and what is handed out, by the rules' work.
 pub record Follows (count : ℕ) (w : Work) (r : Followed) (l l′ : Lent) : Type 0 where
   pub channel : r .channel ≡ stored (channelOf count (w .inStep) (cleared (w .held)))
   pub packets : r .packets ≡ length (w .packets)
+  pub headers : r .headers ≡ w .headers
   pub leaves : l′ ≡ laid (w .packets) l
 
--- Rule 5 on held, begun in frame `first`, and the data xs of a frame: whatever number is kept with the held octets, if that is the frame.
-abbrev pub Takes : Head → Bool → ℕ → List ℕ → List ℕ → Followed → Lent → Lent → Type 0
-Takes head b first held xs r l l′ =
+-- Rule 5 on held, begun in frame `first`, and the data xs of a frame: whatever number is kept with the held octets, if that is the frame;
+-- so many headers were completed in what was dropped.
+abbrev pub Takes : Head → Bool → ℕ → ℕ → List ℕ → List ℕ → Followed → Lent → Lent → Type 0
+Takes head b dropped first held xs r l l′ =
     (g : ℕ) → first ≡ begunIn (head .arrival) g (length held)
-    → Follows (head .count .0) (inStepIf b (feed (head .arrival) (holding (heldOf g held) []) xs)) r l l′
+    → Follows (head .count .0) (inStepIf b (feed (head .arrival) (holding (heldOf g held) [] dropped) xs)) r l l′
 
 -- What of a frame the rules read, by its head and its data.
 abbrev pub headed : Head → List ℕ → Piece
@@ -55,4 +59,5 @@ pub record Heeds (a : Answer) (r : Heeded) (l l′ : Lent) : Type 0 where
   pub channel : r .channel ≡ stored (a .next)
   pub lost : r .lost ≡ a .lost
   pub packets : r .packets ≡ length (a .packets)
+  pub headers : r .headers ≡ a .headers
   pub leaves : l′ ≡ laid (a .packets) l

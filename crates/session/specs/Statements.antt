@@ -20,6 +20,7 @@ pub record AllZero (a : Accepted) : Type 0 where
   pub lost : a .lost ≡ Known 0
   pub master : a .master ≡ Known 0
   pub packets : a .packets ≡ 0
+  pub headers : a .headers ≡ 0
 
 abbrev pub RefusalsTell0 : Type 0
 RefusalsTell0 = (r : StepAnswer) → told r .accepted ≡ false → AllZero (told r .fields)

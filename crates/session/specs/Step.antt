@@ -25,7 +25,7 @@ use Rattle.session.specs.declared.StepAnswer.the-variants as answer
 
 -- Every field 0.
 abbrev pub nothingTold : Accepted
-nothingTold = record { arrival = 0; channel = 0; lost = Known 0; master = Known 0; packets = 0 }
+nothingTold = record { arrival = 0; channel = 0; lost = Known 0; master = Known 0; packets = 0; headers = 0 }
 
 abbrev pub told : StepAnswer → Told Accepted
 told (answer.Accepted a) = accept a
@@ -76,6 +76,7 @@ accepted s f octets =
             lost = ruled s f octets .lost;
             master = lostSince (lastOf (s .heard) (s .master .0)) (f .master .0);
             packets = length (ruled s f octets .packets);
+            headers = ruled s f octets .headers;
           });
       packets = ruled s f octets .packets;
     }

@@ -22,17 +22,19 @@ pub(crate) struct Head {
     pub pointer: u8,
 }
 
-// A channel after a frame, how many were lost before it, and how many packets were handed out.
+// A channel after a frame, how many were lost before it, how many packets were handed out and how many headers completed.
 pub(crate) struct Heeded {
     pub channel: Channel,
     pub lost: Loss,
     pub packets: u8,
+    pub headers: u8,
 }
 
 // The same without the loss, as rules 2 to 5 leave it.
 pub(crate) struct Followed {
     pub channel: Channel,
     pub packets: u8,
+    pub headers: u8,
 }
 
 impl Channel {
@@ -155,6 +157,7 @@ impl Channel {
             channel,
             lost,
             packets: followed.packets,
+            headers: followed.headers,
         }
     }
 }
@@ -182,9 +185,11 @@ fn follow(
         return Followed {
             channel,
             packets: 0,
+            headers: 0,
         };
     }
     let begun = cutting::begun(head.arrival, first, held.len());
+    let mut dropped = cutting::dropped(instep, held, data);
     let mut k = 0;
     let mut from = head.arrival;
     let mut at = 0;
@@ -192,6 +197,7 @@ fn follow(
     if instep & cutting::fits(held, data, head.pointer) {
         k = held.len();
         from = begun;
+        dropped = 0;
     } else if head.pointer == Frame::NONE_STARTS {
         at = data.len();
         on = false;
@@ -201,6 +207,7 @@ fn follow(
     take(
         head,
         on,
+        dropped,
         from,
         &held[..k],
         &data[at..],
@@ -211,10 +218,11 @@ fn follow(
 }
 
 // Rule 5: packets taken one after another out of the held octets and the data, and the rest held; `on` if a packet goes on or starts
-// there, else out of step. The first of them was begun in the frame first.
+// there, else out of step. The first of them was begun in the frame first, and so many headers were completed in what was dropped.
 fn take(
     head: Head,
     on: bool,
+    dropped: usize,
     first: u32,
     held: &[u8],
     data: &[u8],
@@ -222,8 +230,8 @@ fn take(
     lengths: &mut [u16],
     firsts: &mut [u32],
 ) -> Followed
-    requires { ⌜ Taken (now held) (now «data») (lent (now octets) (now lengths) (now firsts)) ⌝ }
-    ensures { λ r. ⌜ Takes head on first (now (held .entry)) (now («data» .entry)) r
+    requires { ⌜ Taken dropped (now held) (now «data») (lent (now octets) (now lengths) (now firsts)) ⌝ }
+    ensures { λ r. ⌜ Takes head on dropped first (now (held .entry)) (now («data» .entry)) r
         (lent (now (octets .entry)) (now (lengths .entry)) (now (firsts .entry)))
         (lent (now (octets .exit)) (now (lengths .exit)) (now (firsts .exit))) ⌝ }
 {
@@ -232,5 +240,10 @@ fn take(
     let count = head.count;
     let channel = Channel::left(count, on & cut.instep, cut.first, held, data, cut.kept);
     let packets = cut.packets as u8;
-    Followed { channel, packets }
+    let headers = cutting::completed(dropped, cut.headers, held.len()) as u8;
+    Followed {
+        channel,
+        packets,
+        headers,
+    }
 }

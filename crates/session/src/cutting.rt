@@ -3,22 +3,25 @@ ghost use mathlib.Core.Path.{_≡_};
 ghost use mathlib.Core.List.{_++_};
 ghost use Prim.Native.Nat.{_+_, _≤_, _<_};
 ghost use lib.ListN.{length, take, drop};
+ghost use mathlib.Core.Bool.{cond};
 ghost use lib.Dec.{eqb};
 ghost use Rattle.octets.specs.Parts.{written};
 ghost use Rattle.octets.specs.Numbers.{at};
-ghost use Rattle.rules.specs.Channel.{begunIn, lengthIn, fits, pointerTo};
-ghost use Rattle.session.specs.Asked.{Begun, Counted, Front};
+ghost use Rattle.rules.specs.Channel.{begunIn, lengthIn, fits, pointerTo, dropped};
+ghost use Rattle.rules.specs.Cutting.{header};
+ghost use Rattle.session.specs.Asked.{Begun, Counted, Front, Completed};
 ghost use Rattle.session.specs.Promised.{Cuts};
 use frame::Frame;
 use packet::Packet;
 
-// The packets found: how many, how many octets they have, where what stays held begins, in which frame it was begun, and in step or
-// not afterwards.
+// The packets found: how many, how many octets they have, where what stays held begins, in which frame it was begun, how many headers
+// were whole, and in step or not afterwards.
 pub(crate) struct Found {
     pub packets: usize,
     pub octets: usize,
     pub kept: usize,
     pub first: u32,
+    pub headers: usize,
     pub instep: bool,
 }
 
@@ -84,6 +87,29 @@ pub(crate) fn fits(held: &[u8], data: &[u8], pointer: u8) -> bool
     points(pointer, whole - k, n)
 }
 
+// The headers completed in held and data where rule 3 drops them.
+pub(crate) fn dropped(instep: bool, held: &[u8], data: &[u8]) -> usize
+    requires { ⌜ Begun (now held) (now «data») ⌝ }
+    ensures { λ r. ⌜ r ≡ cond instep (dropped (now (held .entry)) (now («data» .entry))) 0 ⌝ }
+{
+    let k = held.len();
+    if instep & (0 < k) & (k < 6) & (6 <= k + data.len()) {
+        return 1;
+    }
+    0
+}
+
+// The headers completed in a frame: those in what was dropped and those found, without one that was held whole.
+pub(crate) fn completed(dropped: usize, found: usize, held: usize) -> usize
+    requires { ⌜ Completed dropped found held ⌝ }
+    ensures { λ r. ⌜ header held + r ≡ dropped + found ⌝ }
+{
+    if held < 6 {
+        return dropped + found;
+    }
+    dropped + found - 1
+}
+
 // The packets that held, begun in the frame first, and data, of the frame arrival, end to end begin with; their lengths and first
 // numbers are at the start of lengths and firsts.
 pub(crate) fn cut(
@@ -110,6 +136,7 @@ pub(crate) fn cut(
                 octets: at,
                 kept: all,
                 first: from,
+                headers: packets + 1,
                 instep: false,
             };
         }
@@ -119,6 +146,7 @@ pub(crate) fn cut(
                 octets: at,
                 kept: at,
                 first: from,
+                headers: packets + 1,
                 instep: true,
             };
         }
@@ -133,6 +161,7 @@ pub(crate) fn cut(
         octets: at,
         kept: at,
         first: from,
+        headers: packets,
         instep: true,
     }
 }

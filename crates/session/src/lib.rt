@@ -47,13 +47,15 @@ pub struct Opened {
     pub answer: OpenAnswer,
 }
 
-// An accepted frame: its arrival number and channel, the frames lost on it and over all, and how many packets were handed out.
+// An accepted frame: its arrival number and channel, the frames lost on it and over all, how many packets were handed out, and how many
+// packet headers were completed in it, whatever became of the packets.
 pub struct Accepted {
     pub arrival: u32,
     pub channel: u8,
     pub lost: Loss,
     pub master: Loss,
     pub packets: u8,
+    pub headers: u8,
 }
 
 // What a step answers: an accepted frame, or the refusal.
@@ -184,6 +186,7 @@ impl Session {
                         lost: on,
                         master: lost,
                         packets: heeded.packets,
+                        headers: heeded.headers,
                     });
                 }
             }

@@ -134,6 +134,7 @@ pub fn step(
             loss(b" lost ", lost);
             loss(b" master ", master);
             text::field(b" packets ", a.packets as u64);
+            text::field(b" headers ", a.headers as u64);
         }
         StepAnswer::Refused(r) => frames::refused(r),
     }

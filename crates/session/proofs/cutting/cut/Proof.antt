@@ -39,7 +39,7 @@ returns c =
 returns-2 : tie.Need-returns-2 Inv-loop μ-loop
 returns-2 c =
     let n = c .before .before .length-at in
-    stops-part _ _ _ _ _ _ _ _ _ _ _ (c .before .before .before .before .loop .inv) (n .result) (n .ensures) (within (n .result) (c .before .if1 .left)) (c .if2 .taken)
+    stops-part _ _ _ _ _ _ _ _ _ _ _ (c .before .before .before .before .loop .inv) (n .result) (n .ensures) (search needs) (within (n .result) (c .before .if1 .left)) (c .if2 .taken)
 
 -- what a turn knows
 abbrev Turns : tie.Else2 Inv-loop μ-loop → Type 0
@@ -61,8 +61,8 @@ cut-spec =
     tie.close
     (tie.spec
     Inv-loop μ-loop (λ c. search needs) loop-holds (λ c. c .loop .inv .within) (λ c κs. search needs)
-    (λ c. same (c .before .before .before)) (λ c. same-numbers (c .before .before .before)) returns (λ c. c .before .before .before .loop .inv .within)
-    (λ c. same (c .before .before .before .before)) (λ c. same-numbers (c .before .before .before .before)) returns-2
+    (λ c. omega (arith, c .before .before .before .loop .inv .small)) (λ c. same (c .before .before .before)) (λ c. same-numbers (c .before .before .before)) returns (λ c. c .before .before .before .loop .inv .within)
+    (λ c. omega (arith, c .before .before .before .before .loop .inv .small)) (λ c. same (c .before .before .before .before)) (λ c. same-numbers (c .before .before .before .before)) returns-2
     (λ c. omega (arith, turns c .greatest)) (λ c. omega (arith, turns c .room)) (λ c. turns c .room) (λ c. omega (arith, turns c .numbers)) (λ c. turns c .numbers)
     (λ c. omega (arith, turns c .room)) (λ c. omega (arith, turns c .inside)) (λ c. omega (arith, turns c .inside, turns c .least)) (λ c. turns c .on)
     (λ c. same (c .before)) (λ c. same-numbers (c .before)) returns-3)
