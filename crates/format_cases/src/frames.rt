@@ -43,8 +43,11 @@ pub fn refused(r: Refusal) {
 }
 
 pub fn read(c: &[u8]) {
-    let t = input::octet(c, places::T);
-    let octets = input::block(c, places::INPUT);
+    told(input::octet(c, places::T), input::block(c, places::INPUT));
+}
+
+// Prints what the frame reader says of octets.
+pub fn told(t: u8, octets: &[u8]) {
     match Frame::read(t, octets) {
         FrameRead::Frame(f) => {
             print(f);

@@ -28,3 +28,5 @@ pub const SESSION_OPEN: u8 = 13;
 pub const SESSION: u8 = 14;
 
 pub const SESSION_STEP: u8 = 15;
+
+pub const DAMAGE: u8 = 16;

@@ -98,3 +98,7 @@ pub const INSTEP: u8 = 18;
 pub const HOLDS: u8 = 19;
 
 pub const BEGUN: u8 = 20;
+
+pub const FRAME: u8 = 12;
+
+pub const BITS: u8 = 13;

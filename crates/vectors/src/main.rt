@@ -25,6 +25,7 @@ fn format(c: &[u8], octets: &mut [u8], words: &mut [u16], fours: &mut [u32]) {
         kinds::REPORT_WRITER => reports::write(c, octets),
         kinds::HOUSEKEEPING_READER => reading_cases::read(c, octets, words, fours),
         kinds::HOUSEKEEPING_WRITER => reading_cases::write(c, octets),
+        kinds::DAMAGE => damage_cases::read(c, octets),
         _ => text::say(b"no such kind"),
     }
 }

@@ -1,0 +1,5 @@
+pub mod Counts
+pub mod Register
+pub mod Shows
+pub mod Unseen
+pub mod Worth

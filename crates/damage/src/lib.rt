@@ -1,0 +1,1 @@
+// No code: what damage to a packet or a frame its check always shows.
