@@ -1,6 +1,4 @@
 pub mod Same
-pub mod Overlays
-pub mod TwoLines
 pub mod Brings
 pub mod Brought
 pub mod Told

@@ -2,4 +2,3 @@ pub mod Line
 pub mod Placing
 pub mod Asked
 pub mod Back
-pub mod TwoLines

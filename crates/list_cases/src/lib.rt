@@ -43,15 +43,48 @@ fn hold(line: &[u8], image: &mut [u8], lines: &mut [u32]) {
     }
 }
 
-// Placing a line, with the held lines put into the image before.
-pub fn place(c: &[u8], image: &mut [u8], lines: &mut [u32]) {
+// Puts the held lines of a case into the image.
+fn hold_all(c: &[u8], image: &mut [u8], lines: &mut [u32]) {
     let held = input::block(c, places::HELD);
     let mut at: usize = 0;
     while at < held.len() {
         hold(octets::part(held, at, 193), image, lines);
         at += 193;
     }
+}
+
+// Placing a line, with the held lines put into the image before.
+pub fn place(c: &[u8], image: &mut [u8], lines: &mut [u32]) {
+    hold_all(c, image, lines);
     placed(c, image, lines);
+    left(image, lines);
+}
+
+// Placing lines one after the other, with the held lines put into the image before.
+pub fn place_in_order(c: &[u8], image: &mut [u8], lines: &mut [u32]) {
+    hold_all(c, image, lines);
+    let all = input::block(c, places::INPUT);
+    let wanted = input::word(c, places::WANTED);
+    text::say(b"accepted");
+    let mut at: usize = 0;
+    while at < all.len() {
+        place_next(octets::part(all, at, 256), wanted, image, lines);
+        at += 256;
+    }
+    left(image, lines);
+}
+
+// Places one of several lines, given by its arrival number, its packet's length and the packet, and prints which it is, or the refusal.
+fn place_next(one: &[u8], wanted: u16, image: &mut [u8], lines: &mut [u32]) {
+    if one.len() < 5 {
+        return;
+    }
+    let arrival = octets::four(one[0], one[1], one[2], one[3]);
+    let packet = octets::part(one, 5, octets::wide(one[4]));
+    match image::place(packet, arrival, wanted, image, lines) {
+        Placed::Line(n) => text::field(b" line ", n as u64),
+        Placed::Refused(n) => text::field(b" refusal ", n as u64),
+    }
 }
 
 // Places the line, and prints which it is with its pixels, or the refusal.
@@ -71,6 +104,10 @@ fn placed(c: &[u8], image: &mut [u8], lines: &mut [u32]) {
         }
         Placed::Refused(n) => text::field(b"refusal ", n as u64),
     }
+}
+
+// Prints the image, by its check, and the numbers of its lines.
+fn left(image: &[u8], lines: &[u32]) {
     text::check(b" image ", crc::packet_check(image));
     text::fours(b" lines", lines, 0);
 }

@@ -21,6 +21,7 @@ fn format(c: &[u8], octets: &mut [u8], words: &mut [u16], fours: &mut [u32]) {
         kinds::FRAME_READER => frames::read(c),
         kinds::FRAME_WRITER => frames::write(c, octets),
         kinds::PLACING => list_cases::place(c, octets, fours),
+        kinds::PLACING_ORDER => list_cases::place_in_order(c, octets, fours),
         kinds::REPORT_READER => reports::read(c),
         kinds::REPORT_WRITER => reports::write(c, octets),
         kinds::HOUSEKEEPING_READER => reading_cases::read(c, octets, words, fours),

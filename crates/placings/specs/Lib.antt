@@ -1,0 +1,3 @@
+pub mod Placings
+pub mod AnyOrder
+pub mod Witness
