@@ -1,5 +1,5 @@
 # What the commands share, sourced by each (POSIX sh): the test of what is given, the build, the run of a proved program.
-# Before it, the command sets name (the program's) and here (the checkout). Exit status: 0 all done; 1 an error told on standard error;
+# Before it, the command sets name (the program's), what (it reads) and here (the checkout). Exit status: 0 all done; 1 an error told on standard error;
 # 2 bad usage, or not built; 141 the reader of standard output went away; 129, 130, 143 stopped by HUP, INT, TERM.
 # shellcheck disable=SC2154,SC2015
 
@@ -106,7 +106,7 @@ run() {
     heard <"$room/lines" &
     children=$!
     if [ "$file" = - ]; then
-        [ ! -t 3 ] || say "waiting for a recording on standard input ($name --help tells more)"
+        [ ! -t 3 ] || say "waiting for $what on standard input ($name --help tells more)"
         "$@" 2>"$room/lines" <&3 &
     else
         "$@" 2>"$room/lines" <"$file" &

@@ -117,6 +117,14 @@ outputShort = 50
 abbrev pub fieldRange : ℕ
 fieldRange = 51
 
+-- Sender: a packet that the packet reader turns away.
+abbrev pub packetTurnedAway : ℕ
+packetTurnedAway = 52
+
+-- Sender: data length out of range.
+abbrev pub dataLength : ℕ
+dataLength = 53
+
 -- A layout's code unknown, or the layout empty or above 64.
 abbrev pub layoutCodes : ℕ
 layoutCodes = 60

@@ -65,6 +65,10 @@ pub const COUNT_RANGE: u16 = 46;
 pub const OUTPUT_SHORT: u16 = 50;
 // Writer: a field out of range.
 pub const FIELD_RANGE: u16 = 51;
+// Sender: a packet that the packet reader turns away.
+pub const PACKET_TURNED_AWAY: u16 = 52;
+// Sender: data length out of range.
+pub const DATA_LENGTH: u16 = 53;
 
 // A layout's code unknown, or the layout empty or above 64.
 pub const LAYOUT_CODES: u16 = 60;

@@ -1,17 +1,18 @@
 -- What one call of a step says of a channel.
 use mathlib.Core.Path.{_≡_, refl, sym, ap, _∙_}
-use mathlib.Core.List.{List, [], _∷_, _++_, map, append-assoc}
+use mathlib.Core.List.{List, [], _∷_, _++_}
 use mathlib.Core.Bool.{_&&_}
 use Prim.Native.Nat.{ℕ, _<_}
 use native.Mathlib.Omega.{arith}
-use lib.ListN.{length, getD, set, take, drop, replicate, length-map, getD-replicate}
-use lib.Seq.{getD-set-same, getD-set-other, take-append-seam, drop-append-seam}
+use lib.ListN.{length, getD, set, replicate, length-map, getD-replicate}
+use lib.Seq.{getD-set-same, getD-set-other}
 use lib.Dec.{eqb}
 use Rattle.answer.specs.Told.{Told}
 use Rattle.frame.specs.declared.Frame.{Frame}
 use Rattle.rules.specs.Channel as rules
-use Rattle.rules.specs.Packets.{bare, joined, firsts}
+use Rattle.rules.specs.Packets.{bare, firsts}
 use Rattle.rules.specs.Bounds.{Under}
+use Rattle.rules.proofs.Lengths.{found-again}
 use Rattle.session.specs.declared.Session.{Session}
 use Rattle.session.specs.Channel.{view, stored, fresh}
 use Rattle.session.specs.declared.Accepted.{Accepted}
@@ -22,16 +23,7 @@ use Rattle.session.proofs.Staying.{view-stored}
 use Rattle.sender.specs.Sender.{when}
 use Rattle.delivery.specs.Delivered.{Report}
 use Rattle.delivery.specs.Channels.{report}
-use Rattle.delivery.specs.Run.{Call, pieces, numbered, readOut, took, reportOf}
-
--- packets laid end to end, and cut off again by their lengths
-pub pieces-joined : (ps : List (List ℕ)) (xs ys : List ℕ) → pieces (length ps) (joined ps ++ xs) (map length ps ++ ys) ≡ ps
-pieces-joined [] xs ys = refl
-pieces-joined (p ∷ ps) xs ys =
-    let cut : (p ++ joined ps) ++ xs ≡ p ++ (joined ps ++ xs) = append-assoc p (joined ps) xs in
-    let front : take (length p) ((p ++ joined ps) ++ xs) ≡ p = ap (take (length p)) cut ∙ take-append-seam p (joined ps ++ xs) in
-    let back : drop (length p) ((p ++ joined ps) ++ xs) ≡ joined ps ++ xs = ap (drop (length p)) cut ∙ drop-append-seam p (joined ps ++ xs) in
-    rw (front, back, pieces-joined ps xs ys)
+use Rattle.delivery.specs.Run.{Call, numbered, readOut, took, reportOf}
 
 numbered-back : (a : ℕ) (ps : List rules.Handed) (ns : List ℕ) → Under a ps → numbered a (bare ps) (firsts ps ++ ns) ≡ ps
 numbered-back a [] ns u = refl
@@ -43,8 +35,7 @@ numbered-back a (p ∷ ps) ns u =
 pub read-back : (a n : ℕ) (ps : List rules.Handed) (l : Lent) → Under a ps → n ≡ length ps → readOut a n (laid ps l) ≡ ps
 read-back a n ps l u e =
     let count : n ≡ length (bare ps) = e ∙ sym (length-map ps (λ (x : rules.Handed). x .packet)) in
-    ap (λ (k : ℕ). readOut a k (laid ps l)) count
-    ∙ ap (λ (qs : List (List ℕ)). numbered a qs (laid ps l .firsts)) (pieces-joined (bare ps) _ _)
+    ap (λ (qs : List (List ℕ)). numbered a qs (laid ps l .firsts)) (found-again (bare ps) _ _ n count)
     ∙ numbered-back a ps _ u
 
 -- what an answer and what was lent say of channel v

@@ -14,13 +14,13 @@ use Rattle.delivery.specs.Further.{NothingLost}
 use Rattle.delivery.proofs.Facts.{nil-cons}
 use Rattle.delivery.proofs.Recording.{demand-3}
 
-got-take : (n : ℕ) (ss : List Fate) → allGot ss ≡ true → allGot (take n ss) ≡ true
+pub got-take : (n : ℕ) (ss : List Fate) → allGot ss ≡ true → allGot (take n ss) ≡ true
 got-take zero ss g = refl
 got-take (suc n) [] g = refl
 got-take (suc n) (lost f ∷ ss) g = absurd (false≢true g)
 got-take (suc n) (got a f ∷ ss) g = got-take n ss g
 
-got-drop : (n : ℕ) (ss : List Fate) → allGot ss ≡ true → allGot (drop n ss) ≡ true
+pub got-drop : (n : ℕ) (ss : List Fate) → allGot ss ≡ true → allGot (drop n ss) ≡ true
 got-drop zero ss g = g
 got-drop (suc n) [] g = refl
 got-drop (suc n) (lost f ∷ ss) g = absurd (false≢true g)
@@ -47,7 +47,7 @@ got-when : (b : Bool) (s : Fate) (ss : List Fate) → isGot s ≡ true → allGo
 got-when true s ss h g = rw (h, g)
 got-when false s ss h g = g
 
-all-got : (v last : ℕ) (link : List Passing) (fs : List Framed) → kept link fs ≡ fs → allGot (fates v last link fs) ≡ true
+pub all-got : (v last : ℕ) (link : List Passing) (fs : List Framed) → kept link fs ≡ fs → allGot (fates v last link fs) ≡ true
 all-got v last link [] e = refl
 all-got v last [] (f ∷ fs) e = absurd (nil-cons e)
 all-got v last (arrives ∷ link) (f ∷ fs) e =

@@ -41,7 +41,7 @@ when-pieces true p s ss e = ap (λ (q : rules.Piece). q ∷ map piece ss) e
 when-pieces false p s ss e = refl
 
 -- the fates are the frames'
-fates-pieces : (v last : ℕ) (link : List Passing) (fs : List Framed) → map piece (fates v last link fs) ≡ piecesOf v fs
+pub fates-pieces : (v last : ℕ) (link : List Passing) (fs : List Framed) → map piece (fates v last link fs) ≡ piecesOf v fs
 fates-pieces v last link [] = refl
 fates-pieces v last [] (f ∷ fs) =
     when-pieces (ofChannel v f) (pieceOf f) (lost (pieceOf f)) (fates v last [] fs) refl
@@ -69,7 +69,7 @@ short-when false p ps l s = s
 -- ---- by demand 2, what is offered is what was sent and kept
 
 module _ (t : ℕ) where
-  all-short : (v : ℕ) (fs : List Framed) → AllWellFormed t fs → AllShort (piecesOf v fs)
+  pub all-short : (v : ℕ) (fs : List Framed) → AllWellFormed t fs → AllShort (piecesOf v fs)
   all-short v [] w = tt
   all-short v (f ∷ fs) w =
       let r = reads-back (f .fields) t (f .«data») (f .time) (w .0) in

@@ -1,6 +1,6 @@
 -- 3. The link: it may lose frames, but not alter, repeat or reorder them.
 use Prim.Native.Nat.{ℕ, _+_}
-use mathlib.Core.List.{List, [], _∷_, _++_}
+use mathlib.Core.List.{List, [], _∷_, _++_, map}
 use mathlib.Core.Bool.{Bool, true}
 use Rattle.rules.specs.Channel.{Piece}
 use Rattle.session.specs.Statements.{Stretch, found, unread}
@@ -25,14 +25,18 @@ kept (arrives ∷ link) (f ∷ frames) = f ∷ kept link frames
 kept (loses ∷ link) (f ∷ frames) = kept link frames
 kept (noise n ∷ link) (f ∷ frames) = kept link (f ∷ frames)
 
--- What is offered to a session: the octets of the frames that arrive, all of time size t, and the stretches between them.
+-- What the link leaves of frames, as octets: those that arrive, and the stretches between them.
+abbrev pub passed : List Passing → List (List ℕ) → List Stretch
+passed [] frames = []
+passed (noise n ∷ link) frames = unread n ∷ passed link frames
+passed (arrives ∷ link) [] = passed link []
+passed (arrives ∷ link) (octets ∷ frames) = found octets ∷ passed link frames
+passed (loses ∷ link) [] = passed link []
+passed (loses ∷ link) (octets ∷ frames) = passed link frames
+
+-- What is offered to a session: that of the frames' octets, all of time size t.
 abbrev pub arriving : ℕ → List Passing → List Framed → List Stretch
-arriving t [] frames = []
-arriving t (noise n ∷ link) frames = unread n ∷ arriving t link frames
-arriving t (arrives ∷ link) [] = arriving t link []
-arriving t (arrives ∷ link) (f ∷ frames) = found (sentOctets t f) ∷ arriving t link frames
-arriving t (loses ∷ link) [] = arriving t link []
-arriving t (loses ∷ link) (f ∷ frames) = arriving t link frames
+arriving t link frames = passed link (map (sentOctets t) frames)
 
 -- The fates of the frames that `which` picks out. All that is offered takes the arrival numbers from last + 1 on.
 abbrev pub fatesOf : (Framed → Bool) → ℕ → List Passing → List Framed → List Fate

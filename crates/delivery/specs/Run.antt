@@ -1,11 +1,12 @@
 -- 6. The session's run: its calls, and what is read from the lent octets, lengths and first numbers after each.
-use Prim.Native.Nat.{ℕ, zero, suc}
+use Prim.Native.Nat.{ℕ}
 use mathlib.Core.List.{List, [], _∷_, _++_}
 use mathlib.Core.Bool.{Bool, _&&_}
-use lib.ListN.{take, drop}
+use lib.ListN.{take}
 use lib.Dec.{eqb}
 use Rattle.answer.specs.Told.{Told}
 use Rattle.rules.specs.Channel.{Handed}
+use Rattle.rules.specs.Packets.{cut}
 use Rattle.session.specs.declared.Session.{Session}
 use Rattle.session.specs.declared.Stepped.{Stepped}
 use Rattle.session.specs.declared.Accepted.{Accepted}
@@ -39,21 +40,15 @@ offerOf c = c .offer
 abbrev pub answerOf : Call → Told Accepted
 answerOf c = told (c .result .answer)
 
--- The first n pieces of the lent octets, by the lent lengths.
-abbrev pub pieces : ℕ → List ℕ → List ℕ → List (List ℕ)
-pieces zero octets lengths = []
-pieces (suc n) octets [] = []
-pieces (suc n) octets (l ∷ lengths) = take l octets ∷ pieces n (drop l octets) lengths
-
 -- Packets with their first numbers, under the arrival number a.
 abbrev pub numbered : ℕ → List (List ℕ) → List ℕ → List Handed
 numbered a [] firsts = []
 numbered a (p ∷ ps) [] = []
 numbered a (p ∷ ps) (f ∷ firsts) = record { first = f; arrival = a; packet = p } ∷ numbered a ps firsts
 
--- The n packets that were handed out under the arrival number a.
+-- The n packets that were handed out under the arrival number a: in the lent octets, by the lent lengths.
 abbrev pub readOut : ℕ → ℕ → Lent → List Handed
-readOut a n l = numbered a (pieces n (l .octets) (l .lengths)) (l .firsts)
+readOut a n l = numbered a (cut (l .octets) (take n (l .lengths))) (l .firsts)
 
 abbrev pub packetsOf : Call → List Handed
 packetsOf c = readOut (answerOf c .fields .arrival) (answerOf c .fields .packets) (c .left)

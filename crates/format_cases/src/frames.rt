@@ -59,7 +59,7 @@ pub fn told(t: u8, octets: &[u8]) {
 }
 
 // The address of a callsign of six characters; of six zeros if there aren't as many.
-fn station(s: &[u8], ssid: u8) -> Address {
+pub fn station(s: &[u8], ssid: u8) -> Address {
     let mut callsign = Callsign(0, 0, 0, 0, 0, 0);
     if s.len() == 6 {
         callsign = Callsign(s[0], s[1], s[2], s[3], s[4], s[5]);

@@ -1,5 +1,5 @@
 -- A frame's packets: how many, where they stand, and the lines of them.
-use Prim.Native.Nat.{ℕ, _+_, _≤_}
+use Prim.Native.Nat.{ℕ, _≤_}
 use mathlib.Core.Path.{_≡_, refl, sym, ap, _∙_}
 use mathlib.Core.List.{List, [], _∷_, _++_, map, append-assoc}
 use mathlib.Core.Bool.{Bool, false}
@@ -14,8 +14,9 @@ use Rattle.answer.specs.Told.{Told}
 use Rattle.answer.specs.Refusals as no
 use Rattle.frame.specs.Frame.{readFrame}
 use Rattle.rules.specs.Channel.{Handed}
-use Rattle.rules.specs.Packets.{bare, joined, firsts}
+use Rattle.rules.specs.Packets.{bare, joined, total, firsts}
 use Rattle.rules.specs.Bounds.{Under}
+use Rattle.rules.proofs.Lengths.{total-joined}
 use Rattle.session.specs.Channel.{unsound}
 use Rattle.session.specs.Lent.{Lent, lent, scant, Enough}
 use Rattle.session.specs.Step.{Outcome, Steps, told, outcome, barred, refused, counted, heeded}
@@ -25,7 +26,7 @@ use Rattle.session.specs.declared.Stepped.{Stepped}
 use Rattle.session.proofs.Few.{Few, step-few}
 use Rattle.lines.specs.Text.{answerText}
 use Rattle.listing.specs.Listing.{packetsText, roomy, offered, outcomeText}
-use Rattle.listing.specs.Contracts.{cut, total, answered}
+use Rattle.listing.specs.Contracts.{cut, answered}
 
 -- by whether too little was lent
 gate : Session → List ℕ → Bool → Outcome
@@ -67,10 +68,6 @@ cut-joined a (p ∷ ps) rest xs u =
     rw (front, back)
     (ap (λ (n : ℕ). numbered (p .first) n (p .packet) ∷ cut a s (map length (bare ps)) (firsts ps ++ xs)) (sym (u .0))
     ∙ ap (λ (qs : List Handed). p ∷ qs) (cut-joined a ps rest xs (u .1)))
-
-total-joined : (ps : List (List ℕ)) → total (map length ps) ≡ length (joined ps)
-total-joined [] = refl
-total-joined (p ∷ ps) = simp length-append (omega (arith, total-joined ps))
 
 -- What a step left in the lent octets, lengths and first numbers, of which there were 501, 16 and 16.
 module _ (s : Session) (frame : List ℕ) {octets lengths numbers octets′ lengths′ numbers′ : List ℕ} {r : Stepped} (o501 : length octets ≡ 501) (o16 : length lengths ≡ 16)

@@ -1,5 +1,5 @@
 -- The lines of packets, one behind another.
-use Prim.Native.Nat.{ℕ, zero, suc, _+_, _*_, _≤_, _<_}
+use Prim.Native.Nat.{ℕ, _+_, _*_, _≤_, _<_}
 use mathlib.Core.Path.{_≡_, sym, ap, _∙_}
 use mathlib.Core.List.{List, [], _∷_, _++_, append-nil, append-assoc}
 use native.Mathlib.Omega.{arith}
@@ -11,6 +11,8 @@ use Rattle.octets.proofs.Placing.{part-some}
 use Rattle.answer.specs.declared.Refusal.{Refusal}
 use Rattle.packet.specs.Packet.{readPacket, told}
 use Rattle.packet.specs.declared.PacketRead.{PacketRead}
+use Rattle.rules.specs.Packets.{total}
+use Rattle.rules.proofs.Lengths.{total-front, total-next}
 use Rattle.session.specs.Step.{told as toldStep}
 use Rattle.session.specs.declared.Accepted.{Accepted}
 use Rattle.session.specs.declared.StepAnswer.{StepAnswer}
@@ -20,7 +22,7 @@ use Rattle.decimal.proofs.Laid.{joined, resaid, laid-puts}
 use Rattle.lines.specs.Text.{longestLine, answerText, packetText}
 use Rattle.lines.proofs.Short.{lines-are-short}
 use Rattle.listing.specs.Listing.{packetsText}
-use Rattle.listing.specs.Contracts.{room, cut, total, answered}
+use Rattle.listing.specs.Contracts.{room, cut, answered}
 
 -- one packet more
 packets-more : (a : ℕ) (octets ns firsts : List ℕ) (n : ℕ) → total ns + n ≤ length octets → length ns < length firsts
@@ -36,15 +38,6 @@ packets-more a octets (m ∷ ns) (f ∷ firsts) n h l =
     ∙ ap (λ (z : List ℕ). one ++ (packetsText (cut a (drop m octets) ns firsts) ++ packetText (getD firsts (length ns) 0) a n (readPacket (take n z)))) (sym (drop-drop (total ns) m octets))
     ∙ ap (λ (z : List ℕ). one ++ z) (packets-more a (drop m octets) ns firsts n (omega arith) (omega arith))
 
-total-more : (ns : List ℕ) (n : ℕ) → total (ns ++ (n ∷ [])) ≡ total ns + n
-total-more [] n = omega arith
-total-more (m ∷ ns) n = omega (arith, total-more ns n)
-
-total-front : (i : ℕ) (ns : List ℕ) → total (take i ns) ≤ total ns
-total-front zero ns = omega arith
-total-front (suc i) [] = omega arith
-total-front (suc i) (n ∷ ns) = omega (arith, total-front i ns)
-
 module _ (list : List ℕ) (i : ℕ) (inside : i < length list) where
   so-many : length (take i list) ≡ i
   so-many = length-take-le i list (omega arith)
@@ -54,7 +47,7 @@ module _ (list : List ℕ) (i : ℕ) (inside : i < length list) where
 
   -- where the next packet begins
   pub next-from : total (take (i + 1) list) ≡ total (take i list) + getD list i 0
-  next-from = ap total take-more ∙ total-more (take i list) (getD list i 0)
+  next-from = total-next list i inside
 
   pub next-inside : {packets room : ℕ} → i < packets → total (take packets list) ≤ room → total (take i list) + getD list i 0 ≤ room
   next-inside {packets} h r = omega (arith, next-from, total-front (i + 1) (take packets list), ap total (take-take (i + 1) packets list (omega arith)))

@@ -1,5 +1,5 @@
 -- The text that is still to come from a lister, and what its private functions ask and promise.
-use Prim.Native.Nat.{ℕ, _+_, _*_}
+use Prim.Native.Nat.{ℕ, _*_}
 use mathlib.Core.List.{List, [], _∷_, _++_}
 use mathlib.Core.Bool.{Bool}
 use lib.ListN.{take, drop}
@@ -49,8 +49,3 @@ cut a octets (n ∷ ns) (first ∷ firsts) = record { first = first; arrival = a
 abbrev pub answered : ℕ → Told Accepted → List ℕ → List ℕ → List ℕ → List ℕ
 answered arrival t octets lengths firsts =
     answerText arrival t ++ packetsText (cut arrival octets (take (t .fields .packets) lengths) firsts)
-
--- The octets that packets of these lengths take.
-abbrev pub total : List ℕ → ℕ
-total [] = 0
-total (n ∷ ns) = n + total ns

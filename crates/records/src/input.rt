@@ -1,5 +1,7 @@
 // A case's record: numbers of four octets, high octet first, then octets; src/places.rt has the fields' places.
 ghost use Prim.Native.Nat.{_≤_};
+ghost use mathlib.Core.Path.{_≡_};
+ghost use lib.ListN.{length};
 
 // The number at a field's place; 0 if it isn't there.
 pub fn four(c: &[u8], field: u8) -> u32 {
@@ -36,4 +38,19 @@ pub fn room(c: &[u8], field: u8, most: usize) -> usize
 {
     let n = four(c, field) as usize;
     if n < most { n } else { most }
+}
+
+// The first 65 numbers of 16 bits, each four octets of s; 0 where there are none.
+pub fn words(s: &[u8]) -> [u16; 65]
+    ensures { λ r. ⌜ 65 ≡ length r ⌝ }
+{
+    let mut list = [0u16; 65];
+    let mut at: usize = 0;
+    let mut i = 0;
+    while i < 65 {
+        list[i] = word(octets::part(s, at, 4), 0);
+        at = std::num::wrapping_add_usize(at, 4);
+        i += 1;
+    }
+    list
 }

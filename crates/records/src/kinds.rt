@@ -13,22 +13,26 @@ pub const FRAME_READER: u8 = 6;
 
 pub const FRAME_WRITER: u8 = 7;
 
-pub const PLACING: u8 = 8;
+pub const SENDER: u8 = 8;
 
-pub const PLACING_ORDER: u8 = 9;
+pub const SENDER_EMPTY: u8 = 9;
 
-pub const REPORT_READER: u8 = 10;
+pub const PLACING: u8 = 10;
 
-pub const REPORT_WRITER: u8 = 11;
+pub const PLACING_ORDER: u8 = 11;
 
-pub const HOUSEKEEPING_READER: u8 = 12;
+pub const REPORT_READER: u8 = 12;
 
-pub const HOUSEKEEPING_WRITER: u8 = 13;
+pub const REPORT_WRITER: u8 = 13;
 
-pub const SESSION_OPEN: u8 = 14;
+pub const HOUSEKEEPING_READER: u8 = 14;
 
-pub const SESSION: u8 = 15;
+pub const HOUSEKEEPING_WRITER: u8 = 15;
 
-pub const SESSION_STEP: u8 = 16;
+pub const SESSION_OPEN: u8 = 16;
 
-pub const DAMAGE: u8 = 17;
+pub const SESSION: u8 = 17;
+
+pub const SESSION_STEP: u8 = 18;
+
+pub const DAMAGE: u8 = 19;

@@ -53,6 +53,10 @@ pub const SOURCE_SSID: u8 = 24;
 
 pub const STAMP: u8 = 25;
 
+pub const PARTS: u8 = 27;
+
+pub const LENGTHS: u8 = 29;
+
 pub const WANTED: u8 = 11;
 
 pub const ARRIVAL: u8 = 12;

@@ -3,3 +3,4 @@ pub mod Standing
 pub mod Bounds
 pub mod Cutting
 pub mod Step
+pub mod Lengths

@@ -1,8 +1,8 @@
 -- Packets as lists of octets.
-use Prim.Native.Nat.{ℕ, _-_, _≤_}
+use Prim.Native.Nat.{ℕ, _+_, _-_, _≤_}
 use mathlib.Core.Path.{_≡_}
 use mathlib.Core.List.{List, [], _∷_, _++_, map}
-use lib.ListN.{length}
+use lib.ListN.{length, take, drop}
 use Rattle.octets.specs.Numbers.{at, word}
 use Rattle.packet.specs.Limits.{leastLength, greatestLength}
 use Rattle.rules.specs.Channel.{Handed}
@@ -21,6 +21,15 @@ AllGood (p ∷ ps) = Good p × AllGood ps
 abbrev pub joined : List (List ℕ) → List ℕ
 joined [] = []
 joined (p ∷ ps) = p ++ joined ps
+
+-- The same cut again: octets into parts of these lengths, which take so many octets in all.
+abbrev pub cut : List ℕ → List ℕ → List (List ℕ)
+cut octets [] = []
+cut octets (n ∷ ns) = take n octets ∷ cut (drop n octets) ns
+
+abbrev pub total : List ℕ → ℕ
+total [] = 0
+total (n ∷ ns) = n + total ns
 
 -- The arrival numbers of the frames with the packets' first octets.
 abbrev pub firsts : List Handed → List ℕ

@@ -1,2 +1,14 @@
 pub mod Sending
 pub mod Writing
+pub mod Refusals
+pub mod Starts
+pub mod One
+pub mod Numbered
+pub mod Loop
+pub mod Answers
+pub mod Joining
+pub mod Choices
+pub mod Accepted
+pub mod Calls
+pub mod Told
+pub mod Unique

@@ -1,2 +1,6 @@
 pub mod Stream
 pub mod Sender
+pub mod Frames
+pub mod Send
+pub mod Calls
+pub mod Asked

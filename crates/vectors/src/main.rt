@@ -20,6 +20,8 @@ fn format(c: &[u8], octets: &mut [u8], words: &mut [u16], fours: &mut [u32]) {
         kinds::PACKET_WRITER => packets::write(c, octets),
         kinds::FRAME_READER => frames::read(c),
         kinds::FRAME_WRITER => frames::write(c, octets),
+        kinds::SENDER => sender_cases::send(c, octets, words),
+        kinds::SENDER_EMPTY => sender_cases::empty(c, octets),
         kinds::PLACING => list_cases::place(c, octets, fours),
         kinds::PLACING_ORDER => list_cases::place_in_order(c, octets, fours),
         kinds::REPORT_READER => reports::read(c),

@@ -4,7 +4,7 @@ use mathlib.Core.Path.{_≡_, subst, sym}
 use lib.ListN.{length, take}
 use denote.Ref.{now}
 use Rattle.session.specs.Step.{told}
-use Rattle.listing.specs.Contracts.{total}
+use Rattle.rules.specs.Packets.{total}
 use Rattle.listing.proofs.Packets.{told-packets, line-laid, with-packets, without-packets}
 use native.Mathlib.Omega.{arith}
 use borrow.Author.Needs.{needs}

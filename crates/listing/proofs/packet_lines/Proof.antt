@@ -10,7 +10,8 @@ use Rattle.decimal.specs.Laid.{Laid}
 use Rattle.decimal.proofs.Laid.{no-number, resaid}
 use Rattle.lines.specs.Text.{longestLine}
 use Rattle.listing.specs.Listing.{packetsText}
-use Rattle.listing.specs.Contracts.{cut, total}
+use Rattle.rules.specs.Packets.{total}
+use Rattle.listing.specs.Contracts.{cut}
 use Rattle.listing.proofs.Packets.{next-from, next-inside, one-packet-more}
 use Rattle.listing.proofs.packet_lines.Statement.{statement}
 use Rattle.listing.proofs.packet_lines.Tie as tie

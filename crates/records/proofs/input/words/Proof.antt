@@ -1,19 +1,19 @@
--- `layout_of` is safe and ends.
+-- `input::words` is safe and ends.
 use Prim.Native.Nat.{_-_}
 use mathlib.Core.Path.{_≡_}
 use lib.ListN.{length}
 use borrow.Author.Needs.{needs}
-use Rattle.reading_cases.proofs.layout_of.Statement.{statement}
-use Rattle.reading_cases.proofs.layout_of.Tie as tie
+use Rattle.records.proofs.input.words.Statement.{statement}
+use Rattle.records.proofs.input.words.Tie as tie
 
 abbrev Inv-loop : tie.InvT-loop
-Inv-loop s layout₀ at₀ i₀ layout at i = 65 ≡ length layout
+Inv-loop s list₀ at₀ i₀ list at i = 65 ≡ length list
 
 abbrev μ-loop : tie.MeasureT-loop
-μ-loop s layout₀ at₀ i₀ layout at i = 65 - i
+μ-loop s list₀ at₀ i₀ list at i = 65 - i
 
-pub layout-of-spec : {M : Type 1} → statement M
-layout-of-spec =
+pub words-spec : {M : Type 1} → statement M
+words-spec =
     tie.close
     (tie.spec Inv-loop μ-loop (λ c. search needs) (λ c κs. search needs) (λ c κs. search needs) (λ c. search needs)
     (λ c. search needs) (λ c κs. search needs) (λ c. search needs) (λ c. search needs) (λ c. search needs)

@@ -1,0 +1,3 @@
+pub mod Arrivals
+pub mod Returned
+pub mod Example

@@ -1,0 +1,27 @@
+use Rattle.sender.proofs.Refusals.{Left, left-first, left-next, left-short, left-end}
+use Prim.Native.Nat.{_-_}
+use lib.ListN.{length}
+use native.Mathlib.Omega.{arith}
+use borrow.Author.Needs.{needs}
+use Rattle.sender.proofs.refusing.lengths_wrong.Statement.{statement}
+use Rattle.sender.proofs.refusing.lengths_wrong.Tie as tie
+
+abbrev Inv-loop : tie.InvT-loop
+Inv-loop lengths n left₀ i₀ left i = Left lengths n left i
+
+abbrev μ-loop : tie.MeasureT-loop
+μ-loop lengths n left₀ i₀ left i = length lengths - i
+
+loop-holds : tie.Need-loop-holds Inv-loop μ-loop
+loop-holds c = left-first _ _
+
+cast-length : tie.Need-cast-length Inv-loop μ-loop
+cast-length c = omega (arith, c .shared-slice-known .given (c .before .before .loop .i))
+
+pub lengths-wrong-spec : {M : Type 1} → statement M
+lengths-wrong-spec =
+    tie.close
+    (tie.spec
+    Inv-loop μ-loop loop-holds (λ c. search needs) (λ c. search needs) cast-length
+    (λ c. search (left-short, needs)) (λ c. search needs) (λ c. search needs) (λ c. search (left-next, needs))
+    (λ c. search (left-end, needs)))
