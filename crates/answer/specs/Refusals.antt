@@ -53,6 +53,22 @@ frameStatus = 14
 abbrev pub framePointer : ℕ
 framePointer = 15
 
+-- Stretch of bits: not whole octets.
+abbrev pub stretchOctets : ℕ
+stretchOctets = 16
+
+-- Stretch of bits: abandoned.
+abbrev pub stretchAbandoned : ℕ
+stretchAbandoned = 17
+
+-- KISS: a wrong or cut escape.
+abbrev pub escape : ℕ
+escape = 18
+
+-- KISS: another type octet.
+abbrev pub typeOctet : ℕ
+typeOctet = 19
+
 -- Packet outside 16 to 251, or not C + 7.
 abbrev pub packetLength : ℕ
 packetLength = 20
@@ -140,3 +156,35 @@ sequences = 62
 -- Readings: not (3,25).
 abbrev pub notHousekeeping : ℕ
 notHousekeeping = 63
+
+-- Table file badly formed, or a width not 1 to 8.
+abbrev pub tableForm : ℕ
+tableForm = 70
+
+-- Rows out of order.
+abbrev pub rowOrder : ℕ
+rowOrder = 71
+
+-- No such packet or column, or a packet that the packet reader turns away.
+abbrev pub rowPacket : ℕ
+rowPacket = 72
+
+-- Value absent or different.
+abbrev pub rowValue : ℕ
+rowValue = 73
+
+-- Claimed too early.
+abbrev pub rowClaim : ℕ
+rowClaim = 74
+
+-- Greymap: header or length different.
+abbrev pub greymap : ℕ
+greymap = 80
+
+-- Line list badly formed, or a number above 4,294,967,295.
+abbrev pub lineList : ℕ
+lineList = 81
+
+-- A line numbered 0 with a pixel other than 0.
+abbrev pub unnumberedLine : ℕ
+unnumberedLine = 82

@@ -30,6 +30,15 @@ pub const FRAME_STATUS: u16 = 14;
 // Pointer wrong.
 pub const FRAME_POINTER: u16 = 15;
 
+// Stretch of bits: not whole octets.
+pub const STRETCH_OCTETS: u16 = 16;
+// Stretch of bits: abandoned.
+pub const STRETCH_ABANDONED: u16 = 17;
+// KISS: a wrong or cut escape.
+pub const ESCAPE: u16 = 18;
+// KISS: another type octet.
+pub const TYPE_OCTET: u16 = 19;
+
 // Packet outside 16 to 251, or not C + 7.
 pub const PACKET_LENGTH: u16 = 20;
 // Packet check wrong.
@@ -78,6 +87,24 @@ pub const LAYOUT_WIDTH: u16 = 61;
 pub const SEQUENCES: u16 = 62;
 // Readings: not (3,25).
 pub const NOT_HOUSEKEEPING: u16 = 63;
+
+// Table file badly formed, or a width not 1 to 8.
+pub const TABLE_FORM: u16 = 70;
+// Rows out of order.
+pub const ROW_ORDER: u16 = 71;
+// No such packet or column, or a packet that the packet reader turns away.
+pub const ROW_PACKET: u16 = 72;
+// Value absent or different.
+pub const ROW_VALUE: u16 = 73;
+// Claimed too early.
+pub const ROW_CLAIM: u16 = 74;
+
+// Greymap: header or length different.
+pub const GREYMAP: u16 = 80;
+// Line list badly formed, or a number above 4,294,967,295.
+pub const LINE_LIST: u16 = 81;
+// A line numbered 0 with a pixel other than 0.
+pub const UNNUMBERED_LINE: u16 = 82;
 
 // A refusal of a frame: its number, and the octet of the frame that is wrong, 0 where none is told.
 pub struct Refusal {

@@ -17,7 +17,8 @@ use Rattle.session.specs.declared.StepAnswer.the-variants as answer
 use Rattle.session.specs.declared.Accepted.{Accepted}
 use Rattle.session.specs.Lent.{Lent, lent, Enough, laid}
 use Rattle.session.specs.Step.{told, Outcome, refused, counted, accepted, heeded, outcome, turnedAway}
-use Rattle.session.specs.Statements.{Stretch, found, unread, offered}
+use Rattle.stretch.specs.Stretch.{Stretch, found, unread}
+use Rattle.session.specs.Statements.{offered}
 use Rattle.session.proofs.Admitting.{admitted-picks}
 use Rattle.delivery.specs.Run.{Call, Runs, Room, offerOf}
 

@@ -26,7 +26,8 @@ use Rattle.session.specs.Open.{opened}
 use Rattle.session.specs.declared.Accepted.{Accepted}
 use Rattle.session.specs.Lent.{Lent, Enough}
 use Rattle.session.specs.Step.{Outcome, refused, counted, accepted, heeded, outcome, turnedAway, Gives}
-use Rattle.session.specs.Statements.{Stretch, found, unread, offered}
+use Rattle.stretch.specs.Stretch.{Stretch, found, unread}
+use Rattle.session.specs.Statements.{offered}
 use Rattle.session.proofs.Admitting.{roomy}
 use Rattle.session.proofs.Staying.{opened-sound, counted-sound, offer-stays}
 use Rattle.sender.specs.Stream.{nextCount}

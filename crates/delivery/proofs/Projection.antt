@@ -17,7 +17,8 @@ use Rattle.rules.specs.Channel as rules
 use Rattle.session.specs.declared.Session.{Session}
 use Rattle.session.specs.Channel.{view, unsound}
 use Rattle.session.specs.Step.{Outcome, refusedAt, refused, counted, channelAt, pieceOf, ruled, accepted, outcome, turnedAway, Gives}
-use Rattle.session.specs.Statements.{Stretch, found, unread, offered}
+use Rattle.stretch.specs.Stretch.{Stretch, found, unread}
+use Rattle.session.specs.Statements.{offered}
 use Rattle.session.proofs.Admitting.{roomy}
 use Rattle.session.proofs.Staying.{Stays, offer-stays}
 use Rattle.sender.specs.Sender.{when}

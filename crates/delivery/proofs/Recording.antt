@@ -19,7 +19,7 @@ use Rattle.session.specs.declared.Session.{Session}
 use Rattle.session.specs.declared.Opened.{Opened}
 use Rattle.session.specs.Channel.{view}
 use Rattle.session.specs.Step.{channelAt}
-use Rattle.session.specs.Statements.{Stretch, found, unread}
+use Rattle.stretch.specs.Stretch.{Stretch, found, unread}
 use Rattle.session.specs.Open.{opened, opening, Opens}
 use Rattle.session.proofs.Staying.{opened-sound}
 use Rattle.sender.specs.Sender.{Framed, sentOctets, AllWellFormed, when, ofChannel, pieceOf, piecesOf, Stream}

@@ -13,7 +13,7 @@ use Rattle.rules.specs.Packets.{Good}
 use Rattle.rules.specs.BothSides.{packetOf}
 use Rattle.session.specs.declared.Opened.{Opened}
 use Rattle.session.specs.declared.OpenAnswer.the-variants as answer
-use Rattle.session.specs.Statements.{Stretch}
+use Rattle.stretch.specs.Stretch.{Stretch}
 use Rattle.session.specs.Open.{opened, opening, Opens}
 use Rattle.sender.specs.Sender.{Framed, AllWellFormed, piecesOf, Stream, Sender}
 use Rattle.delivery.specs.Link.{Passing, arriving, fates}

@@ -10,7 +10,7 @@ use Rattle.frame.specs.Frame.{readFrame, dataOf}
 use Rattle.rules.specs.Limits.{lastNumber}
 use Rattle.rules.specs.Channel.{Piece, Channel, Answer, step}
 use Rattle.session.specs.Step.{pieceOf}
-use Rattle.session.specs.Statements.{Stretch, found, unread}
+use Rattle.stretch.specs.Stretch.{Stretch, found, unread}
 use Rattle.sender.specs.Sender.{when}
 use Rattle.delivery.specs.Link.{Fate, lost, got}
 use Rattle.delivery.specs.Delivered.{Report}

@@ -3,7 +3,7 @@ use Prim.Native.Nat.{ℕ, _+_}
 use mathlib.Core.List.{List, [], _∷_, _++_, map}
 use mathlib.Core.Bool.{Bool, true}
 use Rattle.rules.specs.Channel.{Piece}
-use Rattle.session.specs.Statements.{Stretch, found, unread}
+use Rattle.stretch.specs.Stretch.{Stretch, found, unread}
 use Rattle.sender.specs.Sender.{Framed, sentOctets, when, ofChannel, pieceOf}
 
 -- A frame as sent, with its fate: lost, or offered to the session under an arrival number.

@@ -12,7 +12,8 @@ use Rattle.session.specs.declared.Stepped.{Stepped}
 use Rattle.session.specs.declared.Accepted.{Accepted}
 use Rattle.session.specs.Lent.{Lent, Enough}
 use Rattle.session.specs.Step.{told, Gives}
-use Rattle.session.specs.Statements.{Stretch, offered}
+use Rattle.stretch.specs.Stretch.{Stretch}
+use Rattle.session.specs.Statements.{offered}
 use Rattle.sender.specs.Sender.{when}
 use Rattle.delivery.specs.Delivered.{Report}
 

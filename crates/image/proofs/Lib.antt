@@ -1,4 +1,3 @@
-pub mod Same
 pub mod Brings
 pub mod Brought
 pub mod Told

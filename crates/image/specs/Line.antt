@@ -1,13 +1,14 @@
 -- Document 01, 'Image and sequence': what placing one line does to an image and its list of line numbers.
 use Prim.Native.Nat.{ℕ, min, _*_, _≤_, _<_}
 use mathlib.Core.Path.{_≡_}
-use mathlib.Core.Bool.{Bool, true, false, not, _&&_}
-use mathlib.Core.List.{List, [], _∷_}
+use mathlib.Core.Bool.{Bool, not, _&&_}
+use mathlib.Core.List.{List}
 use lib.ListN.{length, set}
 use lib.Dec.{eqb}
 use Rattle.octets.specs.Numbers.{at}
 use Rattle.octets.specs.Parts.{part, overlay}
 use Rattle.octets.specs.Pick.{pick}
+use Rattle.octets.specs.Same.{same}
 
 -- Limits: 188 pixels a line, 120 lines, and so 22,560 octets.
 abbrev pub linePixels : ℕ
@@ -39,16 +40,6 @@ lineOf line pixels arrival = record { line = line; pixels = pixels; arrival = ar
 -- Line n goes to octets 188n to 188n + 187.
 abbrev pub start : ℕ → ℕ
 start n = linePixels * n
-
--- Whether two rows of pixels are equal.
-unfoldable pub same : List ℕ → List ℕ → Bool
-same [] [] = true
-same (x ∷ xs) (y ∷ ys) = eqb x y && same xs ys
-same (x ∷ xs) [] = false
-same [] (y ∷ ys) = false
-
-abbrev pub SameIsEqual : Type 0
-SameIsEqual = (s t : List ℕ) → (same s t ≡ true → s ≡ t) × (s ≡ t → same s t ≡ true)
 
 -- Refusal 42: line n is held, with other pixels.
 unfoldable pub heldOtherwise : Image → ℕ → List ℕ → Bool

@@ -2,8 +2,7 @@
 ghost use mathlib.Core.Path.{_≡_};
 ghost use lib.ListN.{length};
 ghost use Prim.Native.Nat.{_≤_, _<_};
-ghost use mathlib.Core.Bool.{not};
-ghost use Rattle.image.specs.Line.{imageLines, imageOf, lineOf, same, heldOtherwise, number, placed, Fits};
+ghost use Rattle.image.specs.Line.{imageLines, imageOf, lineOf, heldOtherwise, number, placed, Fits};
 ghost use Rattle.image.specs.Placing.{observed, placing, brought, Places};
 ghost use Rattle.image.specs.Asked.{Brings};
 use report::Content;
@@ -21,24 +20,6 @@ pub const OCTETS: usize = LINES * Line::PIXELS;
 pub enum Placed {
     Line(u8),
     Refused(u16),
-}
-
-// Whether two rows of pixels differ.
-fn other(a: &[u8], b: &[u8]) -> bool
-    ensures { λ r. ⌜ r ≡ not (same (now (a .entry)) (now (b .entry))) ⌝ }
-{
-    let n = a.len();
-    if n != b.len() {
-        return true;
-    }
-    let mut i = 0;
-    while i < n {
-        if a[i] != b[i] {
-            return true;
-        }
-        i += 1;
-    }
-    false
 }
 
 // The number of a line that is numbered held and comes again with this arrival number: the smaller of the two, 0 aside.
@@ -62,7 +43,7 @@ fn held_otherwise(n: usize, pixels: &[u8], image: &[u8], lines: &[u32]) -> bool
     if lines[n] == 0 {
         return false;
     }
-    other(octets::part(image, Line::PIXELS * n, Line::PIXELS), pixels)
+    !octets::same(octets::part(image, Line::PIXELS * n, Line::PIXELS), pixels)
 }
 
 // Puts the pixels of line n at their place, and gives the line its number.

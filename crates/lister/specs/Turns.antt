@@ -1,43 +1,31 @@
 -- What a turn of the program keeps.
-use Prim.Native.Nat.{ℕ, _-_, _≤_}
+use Prim.Native.Nat.{ℕ}
 use mathlib.Core.Path.{_≡_}
 use mathlib.Core.List.{List, _++_}
 use mathlib.Core.Bool.{false}
-use lib.ListN.{length, take, drop}
-use Rattle.recording.specs.Reader.{Waits}
-use Rattle.recording.specs.declared.Reader.the-variants as reader
+use Rattle.source.specs.Scan.{Waits, Over}
+use Rattle.receiver.specs.declared.Receiver.{Receiver}
 use Rattle.listing.specs.Whole.{Run}
-use Rattle.listing.specs.declared.Lister.{Lister}
+use Rattle.window.specs.Window.{hand}
 use Rattle.lister.specs.declared.State.{State}
 
--- The octets of the input from at up to end.
-abbrev pub hand : List ℕ → ℕ → ℕ → List ℕ
-hand input at end = take (end - at) (drop at input)
-
--- A state over an input buffer of that many octets.
-pub record Held (s : State) (room : ℕ) : Type 0 where
-  pub from : s .at ≤ s .end
-  pub until : s .end ≤ room
-
--- The octets at hand are moved to the start and kept; the first r are at hand now.
-pub record Refilled (input : List ℕ) (at end : ℕ) (input′ : List ℕ) (r : ℕ) : Type 0 where
-  pub least : end - at ≤ r
-  pub most : r ≤ length input′
-  pub kept : take (end - at) input′ ≡ hand input at end
+-- The octets at hand.
+abbrev pub handOf : State → List ℕ → List ℕ
+handOf s input = hand input (s .at) (s .end)
 
 -- A run that went on: a piece was read and a text left.
-pub record Went (octets text : List ℕ) (l : Lister) (w : List ℕ) : Type 0 where
+pub record Went (a₀ : Receiver) (kept₀ octets text : List ℕ) (a : Receiver) (kept w : List ℕ) : Type 0 where
   pub piece : List ℕ
   pub said : List ℕ
-  pub run : Run (octets ++ piece) (text ++ said) l w
+  pub run : Run a₀ kept₀ (octets ++ piece) (text ++ said) a kept w
 
--- A run that ends with no failed write: the recording is bad, or octets are missing and none came.
-pub data Ends (l : Lister) (w : List ℕ) : Type 0 where
-  over : l .reader ≡ reader.Bad → Ends l w
-  cut : (n : ℕ) → Waits (l .reader) w n → Ends l w
+-- A run that ends with no failed write: nothing comes any more, or octets are missing and none came.
+pub data Ends (a : Receiver) (kept w : List ℕ) : Type 0 where
+  over : Over (a .source) kept → Ends a kept w
+  cut : (n : ℕ) → Waits (a .source) kept w n → Ends a kept w
 
 -- Whatever was read and left before, a turn goes on with that run.
-pub record Turned (s : State) (input : List ℕ) (r : State) (input′ : List ℕ) : Type 0 where
-  pub held : Held r (length input′)
-  pub goes : (octets text : List ℕ) → Run octets text (s .lister) (hand input (s .at) (s .end)) → Went octets text (r .lister) (hand input′ (r .at) (r .end))
-  pub ends : r .going ≡ false → r .failed ≡ false → Ends (r .lister) (hand input′ (r .at) (r .end))
+pub record Turned (s : State) (input kept : List ℕ) (r : State) (input′ kept′ : List ℕ) : Type 0 where
+  pub goes : (a₀ : Receiver) (kept₀ octets text : List ℕ) → Run a₀ kept₀ octets text (s .receiver) kept (handOf s input)
+      → Went a₀ kept₀ octets text (r .receiver) kept′ (handOf r input′)
+  pub ends : r .going ≡ false → r .failed ≡ false → Ends (r .receiver) kept′ (handOf r input′)

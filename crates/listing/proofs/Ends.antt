@@ -4,12 +4,11 @@ use mathlib.Core.Path.{_≡_, refl, sym, ap, _∙_, subst}
 use mathlib.Core.List.{List, []}
 use mathlib.Core.Bool.{Bool, true, false}
 use native.Mathlib.Nat.{add-zero}
-use borrow.Author.Tests.{eq-eqb, ne-eqb}
 use lib.Seq.{paste-zero}
 use Rattle.octets.specs.Pick.{pick}
 use Rattle.decimal.specs.Laid.{Puts}
-use Rattle.recording.specs.declared.Reader.{Reader}
-use Rattle.recording.specs.declared.Reader.the-variants as reader
+use Rattle.source.specs.Found.{cutAt}
+use Rattle.source.specs.declared.Source.{Source}
 use Rattle.lines.specs.Text.{longestLine, badRecording}
 use Rattle.listing.specs.Contracts.{atEnd}
 
@@ -22,17 +21,17 @@ either false h k = k
 nothing-put : (most : ℕ) (out : List ℕ) (at : ℕ) → Puts most [] out at out at
 nothing-put most out at = record { leaves = either _ refl (paste-zero out at []); behind = either _ refl (sym (add-zero at)) }
 
-module _ {a : Reader} (b : Reader) (e : a ≡ b) {out : List ℕ} {at : ℕ} where
-  pub told-bad : {r : ℕ} {out′ : List ℕ} → atEnd b ≡ badRecording → Puts longestLine badRecording out at out′ r → Puts longestLine (atEnd a) out at out′ r
-  told-bad {r} {out′} h w = subst (λ (x : List ℕ). Puts longestLine x out at out′ r) (sym (ap atEnd e ∙ h)) w
-
-  pub told-none : atEnd b ≡ [] → Puts longestLine (atEnd a) out at out at
-  told-none h = subst (λ (x : List ℕ). Puts longestLine x out at out at) (sym (ap atEnd e ∙ h)) (nothing-put longestLine out at)
-
-pub all-there : (n : ℕ) → n ≡ 0 → atEnd (reader.Frames n) ≡ []
+is-cut : (s : Source) → cutAt s ≡ true → atEnd s ≡ badRecording
 unfolding pick
-all-there n h = simp (eq-eqb _ _ h)
+is-cut s e = ap (λ (b : Bool). pick b badRecording []) e
 
-pub some-missing : (n : ℕ) → (n ≡ 0 → ⊥) → atEnd (reader.Frames n) ≡ badRecording
+is-whole : (s : Source) → cutAt s ≡ false → atEnd s ≡ []
 unfolding pick
-some-missing n h = simp (ne-eqb _ _ h)
+is-whole s e = ap (λ (b : Bool). pick b badRecording []) e
+
+module _ (s : Source) {b : Bool} (e : b ≡ cutAt s) {out : List ℕ} {at : ℕ} where
+  pub told-bad : {r : ℕ} {out′ : List ℕ} → b ≡ true → Puts longestLine badRecording out at out′ r → Puts longestLine (atEnd s) out at out′ r
+  told-bad {r} {out′} h w = subst (λ (x : List ℕ). Puts longestLine x out at out′ r) (sym (is-cut s (sym e ∙ h))) w
+
+  pub told-none : b ≡ false → Puts longestLine (atEnd s) out at out at
+  told-none h = subst (λ (x : List ℕ). Puts longestLine x out at out at) (sym (is-whole s (sym e ∙ h))) (nothing-put longestLine out at)

@@ -2,55 +2,28 @@
 use Prim.Native.Nat.{ℕ, _≤_}
 use mathlib.Core.Path.{_≡_, refl, sym, ap, _∙_}
 use mathlib.Core.List.{List, [], _∷_, _++_, map, append-assoc}
-use mathlib.Core.Bool.{Bool, false}
 use native.Mathlib.Omega.{arith}
-use lib.Dec.{eqb}
-use lib.ListN.{length, take, drop, length-append, length-map, length-replicate}
+use lib.ListN.{length, take, drop, length-append, length-map}
 use lib.Seq.{take-at, drop-at}
-use borrow.Author.Tests.{le-ltb}
-use Rattle.octets.specs.Pick.{pick}
 use Rattle.octets.specs.Parts.{written}
 use Rattle.answer.specs.Told.{Told}
-use Rattle.answer.specs.Refusals as no
-use Rattle.frame.specs.Frame.{readFrame}
+use Rattle.stretch.specs.Stretch.{Stretch}
 use Rattle.rules.specs.Channel.{Handed}
 use Rattle.rules.specs.Packets.{bare, joined, total, firsts}
 use Rattle.rules.specs.Bounds.{Under}
 use Rattle.rules.proofs.Lengths.{total-joined}
-use Rattle.session.specs.Channel.{unsound}
-use Rattle.session.specs.Lent.{Lent, lent, scant, Enough}
-use Rattle.session.specs.Step.{Outcome, Steps, told, outcome, barred, refused, counted, heeded}
+use Rattle.session.specs.Lent.{Lent, lent}
+use Rattle.session.specs.Step.{Outcome, Gives, told}
+use Rattle.session.specs.Statements.{offered}
 use Rattle.session.specs.declared.Accepted.{Accepted}
 use Rattle.session.specs.declared.Session.{Session}
 use Rattle.session.specs.declared.Stepped.{Stepped}
-use Rattle.session.proofs.Few.{Few, step-few}
+use Rattle.session.proofs.Few.{Few, offer-few}
+use Rattle.receiver.specs.Run.{roomy}
+use Rattle.receiver.proofs.Enough.{same-outcome}
 use Rattle.lines.specs.Text.{answerText}
-use Rattle.listing.specs.Listing.{packetsText, roomy, offered, outcomeText}
+use Rattle.listing.specs.Listing.{packetsText, made, outcomeText}
 use Rattle.listing.specs.Contracts.{cut, answered}
-
--- by whether too little was lent
-gate : Session → List ℕ → Bool → Outcome
-gate s frame scanty =
-    let n : ℕ = pick scanty no.room (pick (unsound s) no.session (pick (eqb (s .arrival) 4294967295) no.arrivals 0)) in
-    pick (eqb n 0) (heeded (counted s) frame (readFrame (s .t) frame)) (refused s n)
-
-by-gate : (s : Session) (frame : List ℕ) (l : Lent) → outcome s frame l ≡ gate s frame (scant l)
-unfolding outcome barred gate
-by-gate s frame l = refl
-
--- enough was lent
-open-gate : (l : Lent) → Enough l → scant l ≡ false
-open-gate l e = simp (le-ltb _ _ (e .octets), le-ltb _ _ (e .lengths), le-ltb _ _ (e .firsts))
-
-roomy-enough : Enough roomy
-unfolding roomy
-roomy-enough =
-    let entries = length-replicate {A = ℕ} 16 0 in
-    record { octets = omega (arith, length-replicate {A = ℕ} 501 0); lengths = omega arith; firsts = omega arith }
-
--- whatever is lent beyond that, the outcome is the same
-pub same-outcome : (s : Session) (frame : List ℕ) (l : Lent) → Enough l → outcome s frame l ≡ offered s frame
-same-outcome s frame l e = by-gate s frame l ∙ ap (gate s frame) (open-gate l e ∙ sym (open-gate roomy roomy-enough)) ∙ sym (by-gate s frame roomy)
 
 abbrev numbered : ℕ → ℕ → List ℕ → Handed
 numbered first a p = record { first = first; arrival = a; packet = p }
@@ -69,21 +42,21 @@ cut-joined a (p ∷ ps) rest xs u =
     (ap (λ (n : ℕ). numbered (p .first) n (p .packet) ∷ cut a s (map length (bare ps)) (firsts ps ++ xs)) (sym (u .0))
     ∙ ap (λ (qs : List Handed). p ∷ qs) (cut-joined a ps rest xs (u .1)))
 
--- What a step left in the lent octets, lengths and first numbers, of which there were 501, 16 and 16.
-module _ (s : Session) (frame : List ℕ) {octets lengths numbers octets′ lengths′ numbers′ : List ℕ} {r : Stepped} (o501 : length octets ≡ 501) (o16 : length lengths ≡ 16)
-    (n16 : length numbers ≡ 16) (g : Steps s frame (lent octets lengths numbers) r (lent octets′ lengths′ numbers′)) where
+-- What a step left, or turning a stretch away, in the lent octets, lengths and first numbers, of which there were 501, 16 and 16.
+module _ (s : Session) (x : Stretch) {octets lengths numbers octets′ lengths′ numbers′ : List ℕ} {r : Stepped} (o501 : length octets ≡ 501) (o16 : length lengths ≡ 16)
+    (n16 : length numbers ≡ 16) (g : Gives (offered s x (lent octets lengths numbers)) r (lent octets lengths numbers) (lent octets′ lengths′ numbers′)) where
   abbrev o : Outcome
-  o = offered s frame
+  o = made s x
 
   abbrev ps : List (List ℕ)
   ps = bare (o .packets)
 
   few : Few o
-  few = step-few s frame roomy
+  few = offer-few s x roomy
 
-  same : outcome s frame (lent octets lengths numbers) ≡ o
+  same : offered s x (lent octets lengths numbers) ≡ o
   same =
-      same-outcome s frame (lent octets lengths numbers) (record { octets = omega (arith, o501); lengths = omega (arith, o16); firsts = omega (arith, n16) })
+      same-outcome s x (lent octets lengths numbers) (record { octets = omega (arith, o501); lengths = omega (arith, o16); firsts = omega (arith, n16) })
 
   answers : told (r .answer) ≡ o .answer
   answers = g .answers ∙ ap (λ (x : Outcome). x .answer) same
@@ -123,7 +96,7 @@ module _ (s : Session) (frame : List ℕ) {octets lengths numbers octets′ leng
       ∙ ap (cut a (written (joined ps) octets) (map length ps)) numbers-are
       ∙ cut-joined a (o .packets) (drop (length (joined ps)) octets) (drop (length (firsts (o .packets))) numbers) (few .used)
 
-  pub frame-text : answered (r .session .arrival) (told (r .answer)) octets′ lengths′ numbers′ ≡ outcomeText (offered s frame)
+  pub frame-text : answered (r .session .arrival) (told (r .answer)) octets′ lengths′ numbers′ ≡ outcomeText (made s x)
   unfolding outcomeText
   frame-text =
       ap (λ (z : Session). answered (z .arrival) (told (r .answer)) octets′ lengths′ numbers′) stepped-session

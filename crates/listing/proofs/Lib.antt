@@ -1,6 +1,6 @@
+pub mod Calls
 pub mod Ends
 pub mod Handed
-pub mod Next
 pub mod Packets
 pub mod Parts
 pub mod Sofar

@@ -1,6 +1,6 @@
-// Lists a recording that comes in pieces: a step by value, without reading or writing a file.
+// Lists what a source tells, in pieces: a step by value, without reading or writing a file.
 //
-// What stands where is recording's, the text of a line lines', the frames the session's, the packets the packet reader's.
+// What stands where is the source's, the text of a line lines', the frames the session's, the packets the packet reader's.
 ghost use Prim.Native.Nat.{_+_, _*_, _≤_};
 ghost use mathlib.Core.Path.{_≡_};
 ghost use lib.ListN.{length, take};
@@ -8,24 +8,20 @@ ghost use Rattle.decimal.specs.Laid.{Laid, Puts};
 ghost use Rattle.rules.specs.Packets.{total};
 ghost use Rattle.session.specs.Step.{told};
 ghost use Rattle.lines.specs.Text.{longestLine};
-ghost use Rattle.listing.specs.Listing.{fresh, packetsText};
+ghost use Rattle.listing.specs.Listing.{packetsText};
 ghost use Rattle.listing.specs.Contracts.{room, atEnd, answered, cut};
 ghost use Rattle.listing.specs.Next.{stopped, Nexts};
 use lines::LINE;
 use packet::Packet;
-use recording::Reader;
-use recording::Taken;
+use receiver::Receiver;
 use session::Session;
 use session::StepAnswer;
+use source::Source;
+use source::Taken;
+use stretch::KEPT;
 
 // The most octets that the lines of one frame take: its own and those of 16 packets.
 pub const ROOM: usize = 17 * LINE;
-
-// How far a recording is read, and the session that is offered its frames.
-pub struct Lister {
-    pub reader: Reader,
-    pub session: Session,
-}
 
 // Why a call stopped.
 pub enum Stop {
@@ -37,9 +33,9 @@ pub enum Stop {
     Over,
 }
 
-// The next lister, how many octets of the window were used, how many octets of text were left, and why it stopped.
+// The next receiver, how many octets of the window were used, how many octets of text were left, and why it stopped.
 pub struct Listed {
-    pub lister: Lister,
+    pub receiver: Receiver,
     pub used: usize,
     pub size: usize,
     pub stop: Stop,
@@ -47,12 +43,12 @@ pub struct Listed {
 
 impl Listed {
     // What a call answers that stops there.
-    fn stopped(reader: Reader, session: Session, used: usize, size: usize, stop: Stop) -> Listed
-        ensures { λ r. ⌜ r ≡ stopped reader session used size stop ⌝ }
+    fn stopped(source: Source, session: Session, used: usize, size: usize, stop: Stop) -> Listed
+        ensures { λ r. ⌜ r ≡ stopped source session used size stop ⌝ }
     {
-        let lister = Lister { reader, session };
+        let receiver = Receiver { source, session };
         Listed {
-            lister,
+            receiver,
             used,
             size,
             stop,
@@ -60,106 +56,120 @@ impl Listed {
     }
 }
 
-impl Lister {
-    // A lister that has read nothing yet.
-    pub fn fresh() -> Lister
-        ensures { λ r. ⌜ (r .reader ≡ Reader.Settings) × (r .session ≡ fresh) ⌝ }
-    {
-        let opened = Session::open(0, 0);
-        let session = opened.session;
-        Lister {
-            reader: Reader::Settings,
-            session,
-        }
-    }
-
-    // Lists the window's sections one after another until octets are missing, less than ROOM is left in out, or the recording is bad.
-    pub fn next(self, window: &[u8], out: &mut [u8]) -> Listed
-        ensures { λ r. ⌜ Nexts self (now (window .entry)) (now (out .entry)) r (now (out .exit)) ⌝ }
-    {
-        let mut octets = [0u8; Session::OCTETS];
-        let mut lengths = [0u16; Session::LENGTHS];
-        let mut firsts = [0u32; Session::FIRSTS];
-        let mut reader = self.reader;
-        let mut session = self.session;
-        let mut at = 0;
-        let mut size = 0;
-        while ROOM <= out.len() - size {
-            let scanned = reader.scan(&window[at..]);
-            let taken = scanned.taken;
-            let behind = at + scanned.used;
-            match taken {
-                Taken::Missing(n) => return Listed::stopped(
-                    reader,
-                    session,
-                    at,
+// Lists the window's sections one after another until octets are missing, less than ROOM is left in out, or the recording is bad. A source
+// keeps octets in kept from one call to the next.
+pub fn next(receiver: Receiver, window: &[u8], kept: &mut [u8; KEPT], out: &mut [u8]) -> Listed
+    ensures { λ r. ⌜ Nexts receiver (now (kept .entry)) (now (window .entry)) (now (out .entry)) r (now (kept .exit)) (now (out .exit)) ⌝ }
+{
+    let mut octets = [0u8; Session::OCTETS];
+    let mut lengths = [0u16; Session::LENGTHS];
+    let mut firsts = [0u32; Session::FIRSTS];
+    let mut source = receiver.source;
+    let mut session = receiver.session;
+    let mut at = 0;
+    let mut size = 0;
+    while ROOM <= out.len() - size {
+        let scanned = source.scan(&window[at..], kept);
+        let taken = scanned.taken;
+        let behind = at + scanned.used;
+        source = scanned.source;
+        match taken {
+            Taken::Missing(n) => return Listed::stopped(
+                source,
+                session,
+                at,
+                size,
+                Stop::Missing(n),
+            ),
+            Taken::Over => return Listed::stopped(source, session, at, size, Stop::Over),
+            Taken::Bad => {
+                let end = lines::bad_line(out, size);
+                return Listed::stopped(source, session, at, end, Stop::Over);
+            }
+            Taken::Opened(t) => {
+                let opened = Session::open(t as u8, 0);
+                session = opened.session;
+                size = lines::header_line(out, size);
+                at = behind;
+                continue;
+            }
+            Taken::Nothing => {
+                at = behind;
+                continue;
+            }
+            Taken::Here(from, to) => {
+                let start = at + from;
+                let end = at + to;
+                let stepped = session.step(
+                    &window[start..end],
+                    &mut octets,
+                    &mut lengths,
+                    &mut firsts,
+                );
+                session = stepped.session;
+                let answer = stepped.answer;
+                size = frame_lines(
+                    out,
                     size,
-                    Stop::Missing(n),
-                ),
-                Taken::Over => return Listed::stopped(reader, session, at, size, Stop::Over),
-                Taken::Bad => {
-                    let end = lines::bad_line(out, size);
-                    return Listed::stopped(Reader::Bad, session, at, end, Stop::Over);
-                }
-                Taken::Opened(t) => {
-                    let opened = Session::open(t as u8, 0);
-                    session = opened.session;
-                    size = lines::header_line(out, size);
-                    at = behind;
-                    reader = scanned.reader;
-                    continue;
-                }
-                Taken::Nothing => {
-                    at = behind;
-                    reader = scanned.reader;
-                    continue;
-                }
-                Taken::Here(from, to) => {
-                    let start = at + from;
-                    let end = at + to;
-                    let stepped = session.step(
-                        &window[start..end],
-                        &mut octets,
-                        &mut lengths,
-                        &mut firsts,
-                    );
-                    session = stepped.session;
-                    let answer = stepped.answer;
-                    size = frame_lines(
-                        out,
-                        size,
-                        session.arrival,
-                        answer,
-                        &octets,
-                        &lengths,
-                        &firsts,
-                    );
-                    at = behind;
-                    reader = scanned.reader;
-                    continue;
-                }
+                    session.arrival,
+                    answer,
+                    &octets,
+                    &lengths,
+                    &firsts,
+                );
+                at = behind;
+                continue;
+            }
+            Taken::Kept(n) => {
+                let stepped = session.step(
+                    octets::part(kept, 0, n),
+                    &mut octets,
+                    &mut lengths,
+                    &mut firsts,
+                );
+                session = stepped.session;
+                let answer = stepped.answer;
+                size = frame_lines(
+                    out,
+                    size,
+                    session.arrival,
+                    answer,
+                    &octets,
+                    &lengths,
+                    &firsts,
+                );
+                at = behind;
+                continue;
+            }
+            Taken::Refused(n) => {
+                let stepped = session.turn_away(n, &octets, &lengths, &firsts);
+                session = stepped.session;
+                let answer = stepped.answer;
+                size = frame_lines(
+                    out,
+                    size,
+                    session.arrival,
+                    answer,
+                    &octets,
+                    &lengths,
+                    &firsts,
+                );
+                at = behind;
+                continue;
             }
         }
-        Listed::stopped(reader, session, at, size, Stop::Full)
     }
+    Listed::stopped(source, session, at, size, Stop::Full)
+}
 
-    // What is told at the input's end, from index at on, and the index behind it. With less than a line's room there out stays.
-    pub fn end(self, out: &mut [u8], at: usize) -> usize
-        ensures { λ r. ⌜ Puts longestLine (atEnd (self .reader)) (now (out .entry)) at (now (out .exit)) r ⌝ }
-    {
-        let reader = self.reader;
-        match reader {
-            Reader::Settings => lines::bad_line(out, at),
-            Reader::Count => lines::bad_line(out, at),
-            Reader::Frames(n) => {
-                if n == 0 {
-                    return at;
-                }
-                lines::bad_line(out, at)
-            }
-            Reader::Bad => at,
-        }
+// What is told at the input's end, from index at on, and the index behind it. With less than a line's room there out stays.
+pub fn end(source: Source, out: &mut [u8], at: usize) -> usize
+    ensures { λ r. ⌜ Puts longestLine (atEnd source) (now (out .entry)) at (now (out .exit)) r ⌝ }
+{
+    if source.cut() {
+        return lines::bad_line(out, at);
     }
+    at
 }
 
 // The lines of a frame and of the packets that it completes, put behind what the output has, and how much it then has.

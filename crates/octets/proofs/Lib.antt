@@ -1,4 +1,5 @@
 pub mod Choices
+pub mod Comparing
 pub mod Fixed
 pub mod Laws
 pub mod Placing

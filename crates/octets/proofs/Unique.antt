@@ -18,6 +18,8 @@ use Rattle.octets.proofs.five_octets.Kinds as kfive-octets
 use Rattle.octets.proofs.five_octets.Reads as rfive-octets
 use Rattle.octets.proofs.part.Kinds as kpart
 use Rattle.octets.proofs.part.Reads as rpart
+use Rattle.octets.proofs.same.Kinds as ksame
+use Rattle.octets.proofs.same.Reads as rsame
 use Rattle.octets.proofs.put.Kinds as kput
 use Rattle.octets.proofs.put.Reads as rput
 
@@ -45,6 +47,9 @@ five-octets-fixed = fixed kfive-octets.ps kfive-octets.r rfive-octets.Post _ _ (
 -- the octets seen through the result
 pub part-fixed : Fixes kpart.ps kpart.r rpart.Post (λ κs x s. now x)
 part-fixed = fixed kpart.ps kpart.r rpart.Post _ _ (λ κs a x s p. p)
+
+pub same-fixed : Fixes ksame.ps ksame.r rsame.Post (λ κs x s. x)
+same-fixed = fixed ksame.ps ksame.r rsame.Post _ _ (λ κs a x s p. p)
 
 -- the lent octets afterwards
 pub put-fixed : Fixes kput.ps kput.r rput.Post (λ κs x s. now (s .0))

@@ -1,4 +1,5 @@
 pub mod Numbers
 pub mod Parts
 pub mod Pick
+pub mod Same
 pub mod Unique

@@ -2,6 +2,7 @@
 ghost use mathlib.Core.Path.{_≡_};
 ghost use Rattle.octets.specs.Numbers.{word, four, five, wordOf, fourOf, fiveOf};
 ghost use Rattle.octets.specs.Parts.{part, put};
+ghost use Rattle.octets.specs.Same.{same};
 
 // An octet as a number of an index's width.
 pub fn wide(x: u8) -> usize
@@ -80,6 +81,24 @@ pub fn part(s: &[u8], at: usize, n: usize) -> &[u8]
     }
     let end = at + n;
     &s[at..end]
+}
+
+// Whether two rows of octets are equal.
+pub fn same(a: &[u8], b: &[u8]) -> bool
+    ensures { λ r. ⌜ r ≡ same (now (a .entry)) (now (b .entry)) ⌝ }
+{
+    let n = a.len();
+    if n != b.len() {
+        return false;
+    }
+    let mut i = 0;
+    while i < n {
+        if a[i] != b[i] {
+            return false;
+        }
+        i += 1;
+    }
+    true
 }
 
 // The octets of src at index at of out, if all fit there; else out stays.

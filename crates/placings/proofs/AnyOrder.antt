@@ -12,11 +12,12 @@ use Rattle.octets.specs.Numbers.{at}
 use Rattle.octets.proofs.Choices.{picked}
 use Rattle.answer.specs.Refusals.{lineHeld}
 use Rattle.report.specs.Report.{pixelsOf}
-use Rattle.image.specs.Line.{Image, Room, same, heldOtherwise, placed}
+use Rattle.octets.specs.Same.{same}
+use Rattle.image.specs.Line.{Image, Room, heldOtherwise, placed}
 use Rattle.image.specs.Placing.{observed, placing, Places}
 use Rattle.image.specs.declared.Placed.{Placed}
 use Rattle.image.specs.declared.Placed.the-variants as answers
-use Rattle.image.proofs.Same.{same-is-equal}
+use Rattle.octets.proofs.Comparing.{same-is-equal}
 use Rattle.image.proofs.Told.{observed-apart}
 use Rattle.placings.specs.Placings.{Arrived, line, row, Accepted, Alike, Agreeing, Placings, done, next}
 use Rattle.placings.specs.AnyOrder.{answerOf, Same, Reordered, AnyOrder, EitherOrder, Again, Conflicts}

@@ -11,10 +11,11 @@ use lib.Dec.{eqb}
 use Rattle.octets.specs.Numbers.{at}
 use Rattle.octets.proofs.Choices.{passed}
 use Rattle.report.specs.Report.{pixelsOf}
-use Rattle.image.specs.Line.{imageLines, Image, Room, Line, Fits, same, heldOtherwise, number, placed}
+use Rattle.octets.specs.Same.{same}
+use Rattle.image.specs.Line.{imageLines, Image, Room, Line, Fits, heldOtherwise, number, placed}
 use Rattle.image.specs.Placing.{Outcome, observed, placing, Places}
 use Rattle.image.specs.declared.Placed.{Placed}
-use Rattle.image.proofs.Same.{same-is-equal}
+use Rattle.octets.proofs.Comparing.{same-is-equal}
 use Rattle.image.proofs.Told.{observed-apart}
 use Rattle.placings.specs.Placings.{Arrived, line, row, Alike}
 use Rattle.placings.specs.AnyOrder.{answerOf}

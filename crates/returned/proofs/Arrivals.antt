@@ -14,7 +14,7 @@ use Rattle.counts.specs.Lost.{number}
 use Rattle.rules.specs.Channel.{Piece, Handed}
 use Rattle.rules.specs.Packets.{joined}
 use Rattle.rules.proofs.Standing.{Order, upTo, past, order}
-use Rattle.session.specs.Statements.{Stretch, found}
+use Rattle.stretch.specs.Stretch.{Stretch, found}
 use Rattle.sender.specs.Stream.{heads, firstFrom, Choice, raw, next, nextCount, framesBy}
 use Rattle.sender.specs.Sender.{Framed, sentOctets, when, ofChannel, pieceOf}
 use Rattle.sender.specs.Frames.{framedFrom}

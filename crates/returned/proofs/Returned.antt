@@ -7,7 +7,7 @@ use mathlib.Core.Option.{none}
 use native.Mathlib.Omega.{arith}
 use lib.ListN.{length, getD, length-map}
 use Rattle.rules.specs.Packets.{AllGood, joined}
-use Rattle.session.specs.Statements.{Stretch, found}
+use Rattle.stretch.specs.Stretch.{Stretch, found}
 use Rattle.sender.specs.Sender.{Framed, sentOctets, piecesOf, Stream}
 use Rattle.sender.specs.Frames.{Wanted, packetsOf, fullFrames, choicesOf}
 use Rattle.sender.specs.Calls as sender

@@ -10,7 +10,7 @@ use Rattle.rules.specs.Channel.{Handed}
 use Rattle.rules.specs.Packets.{joined}
 use Rattle.session.specs.declared.Opened.{Opened}
 use Rattle.session.specs.Open.{Opens}
-use Rattle.session.specs.Statements.{Stretch, found}
+use Rattle.stretch.specs.Stretch.{Stretch, found}
 use Rattle.sender.specs.Sender.{Framed, ofChannel, pieceOf}
 use Rattle.sender.specs.Frames.{packetsOf, framesOf}
 use Rattle.sender.specs.Calls as sender

@@ -110,7 +110,7 @@ fn turn(
 ) -> Place {
     let line = octets::part(script, at, std::num::wrapping_sub_usize(end, at));
     let mut next = before;
-    if script_text::same(script_text::word(line), b"link") {
+    if octets::same(script_text::word(line), b"link") {
         next.link = std::num::wrapping_add_usize(at, 5);
         next.signs = script_text::rest(line).len();
         return next;

@@ -141,13 +141,13 @@ fn make(
     if frames.len() <= state.frames {
         return state.stopped(Fault::Room);
     }
-    if script_text::same(line, b"send") {
+    if octets::same(line, b"send") {
         return send_all(state, stamp, packets, lengths, out, frames);
     }
-    if script_text::same(line, b"empty") {
+    if octets::same(line, b"empty") {
         return empty(state, stamp, out, frames);
     }
-    if script_text::same(word, b"frame") {
+    if octets::same(word, b"frame") {
         return frame(state, value, out, frames);
     }
     script_settings::set(state, word, value, stamp)
@@ -165,10 +165,10 @@ pub(crate) fn step(
     frames: &mut [u16],
 ) -> Stepped {
     let from = state.made;
-    if (line.len() == 0) | script_text::same(octets::part(line, 0, 1), b"#") {
+    if (line.len() == 0) | octets::same(octets::part(line, 0, 1), b"#") {
         return state.going();
     }
-    if script_text::same(script_text::word(line), b"packet") {
+    if octets::same(script_text::word(line), b"packet") {
         return packet(state, script_text::rest(line), packets, lengths);
     }
     if made.len() < from {

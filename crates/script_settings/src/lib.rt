@@ -144,7 +144,7 @@ fn station(state: State, word: &[u8], value: &[u8]) -> Stepped {
     }
     let given = address(callsign, (n % 256) as u8);
     let mut next = state;
-    if script_text::same(word, b"source") {
+    if octets::same(word, b"source") {
         next.source = given;
     } else {
         next.destination = given;
@@ -157,21 +157,21 @@ fn number(state: State, word: &[u8], n: usize) -> Stepped {
     let x = (n % 256) as u8;
     let mut next = state;
     let mut most: usize = 255;
-    if script_text::same(word, b"size") {
+    if octets::same(word, b"size") {
         next.size = n;
         most = 999999;
-    } else if script_text::same(word, b"t") {
+    } else if octets::same(word, b"t") {
         next.t = x;
         if state.frames != 0 {
             most = 0;
         }
-    } else if script_text::same(word, b"channel") {
+    } else if octets::same(word, b"channel") {
         next.channel = x;
-    } else if script_text::same(word, b"count") {
+    } else if octets::same(word, b"count") {
         next = state.counted(x);
-    } else if script_text::same(word, b"master") {
+    } else if octets::same(word, b"master") {
         next.master = x;
-    } else if script_text::same(word, b"telecommands") {
+    } else if octets::same(word, b"telecommands") {
         next.telecommands = x;
     } else {
         return state.stopped(Fault::Word);
@@ -195,10 +195,10 @@ fn time(state: State, value: &[u8], stamp: &mut [u8]) -> Stepped {
 
 // A setting: an address, the time or a number.
 pub fn set(state: State, word: &[u8], value: &[u8], stamp: &mut [u8]) -> Stepped {
-    if script_text::same(word, b"destination") | script_text::same(word, b"source") {
+    if octets::same(word, b"destination") | octets::same(word, b"source") {
         return station(state, word, value);
     }
-    if script_text::same(word, b"time") {
+    if octets::same(word, b"time") {
         return time(state, value, stamp);
     }
     number(state, word, script_text::number(value))

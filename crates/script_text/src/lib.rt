@@ -26,23 +26,6 @@ pub fn rest(s: &[u8]) -> &[u8] {
     octets::part(s, from, std::num::wrapping_sub_usize(s.len(), from))
 }
 
-// Whether two texts are the same.
-pub fn same(a: &[u8], b: &[u8]) -> bool {
-    if a.len() != b.len() {
-        return false;
-    }
-    let mut i = 0;
-    while i < a.len() {
-        if i < b.len() {
-            if a[i] != b[i] {
-                return false;
-            }
-        }
-        i += 1;
-    }
-    true
-}
-
 // The number below 1,000,000 that decimal digits are; else NONE.
 pub fn number(s: &[u8]) -> usize {
     if s.len() == 0 {

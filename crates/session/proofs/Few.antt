@@ -14,7 +14,8 @@ use Rattle.rules.proofs.Step.{step-arrivals}
 use Rattle.session.specs.Channel.{view, unsound}
 use Rattle.session.specs.Lent.{Lent}
 use Rattle.session.specs.Step.{Outcome, refusedAt, counted, channelAt, pieceOf, ruled, accepted, heeded, outcome, turnedAway}
-use Rattle.session.specs.Statements.{Stretch, found, unread, offered}
+use Rattle.stretch.specs.Stretch.{Stretch, found, unread}
+use Rattle.session.specs.Statements.{offered}
 use Rattle.session.specs.declared.Session.{Session}
 use Rattle.session.proofs.Admitting.{admitted-picks}
 use Rattle.session.proofs.Staying.{ruled-bounded, counted-sound, few-read}

@@ -24,7 +24,8 @@ use Rattle.session.specs.Channel.{heardOf, countOf, view, stored, fresh,
 use Rattle.session.specs.Lent.{Lent}
 use Rattle.session.specs.Open.{Opening, opened, opening}
 use Rattle.session.specs.Step.{Outcome, refusedAt, counted, channelAt, pieceOf, ruled, accepted, heeded, outcome, turnedAway}
-use Rattle.session.specs.Statements.{Stretch, found, unread, offered, Offer, after, StaysSound}
+use Rattle.stretch.specs.Stretch.{Stretch, found, unread}
+use Rattle.session.specs.Statements.{offered, Offer, after, StaysSound}
 use Rattle.session.specs.declared.Channel.{Channel}
 use Rattle.session.specs.declared.Session.{Session}
 use Rattle.session.proofs.Admitting.{admitted-picks, not-four}

@@ -6,6 +6,7 @@ use mathlib.Core.Bool.{false}
 use Rattle.answer.specs.Refusals as no
 use Rattle.counts.specs.declared.Loss.the-variants.{Known}
 use Rattle.frame.specs.Limits.{longestTime}
+use Rattle.stretch.specs.Stretch.{Stretch, found, unread}
 use Rattle.session.specs.Lent.{Lent}
 use Rattle.session.specs.Open.{opening}
 use Rattle.session.specs.Step.{told, Outcome, barred, outcome, turnedAway}
@@ -29,12 +30,7 @@ RefusalsTell0 = (r : StepAnswer) → told r .accepted ≡ false → AllZero (tol
 abbrev pub RefusedFresh : Type 0
 RefusedFresh = (t last : ℕ) → longestTime < t → opening t last .session ≡ opening 0 0 .session
 
--- What is offered to a session: a frame's octets, or a stretch that was refused with a number before any frame could be read.
-pub data Stretch : Type 0 where
-  found : List ℕ → Stretch
-  unread : ℕ → Stretch
-
--- What comes of it, by `Session::step` or by `Session::turn_away`.
+-- What comes of what is offered to a session, by `Session::step` or by `Session::turn_away`.
 abbrev pub offered : Session → Stretch → Lent → Outcome
 offered s (found x) l = outcome s x l
 offered s (unread n) l = turnedAway s n l

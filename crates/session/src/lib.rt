@@ -199,7 +199,7 @@ impl Session {
 
     // The session after a stretch that was refused before any frame could be read: the first of 1, 4, 3, else its own refusal,
     // which uses up an arrival number. The channels stay.
-    fn turn_away(mut self, own: u16, octets: &[u8], lengths: &[u16], firsts: &[u32]) -> Stepped
+    pub fn turn_away(mut self, own: u16, octets: &[u8], lengths: &[u16], firsts: &[u32]) -> Stepped
         ensures { λ r. ⌜ TurnsAway self own
             (lent (now (octets .entry)) (now (lengths .entry)) (now (firsts .entry))) r
             (lent (now (octets .entry)) (now (lengths .entry)) (now (firsts .entry))) ⌝ }

@@ -11,7 +11,7 @@ returns c = simp (eq-eqb _ _ (c .if1 .taken))
 
 returns-2 : tie.Need-returns-2
 unfolding heldOtherwise
-returns-2 c = simp (ne-eqb _ _ (c .before .before .if1 .left), c .other .ensures, c .before .part .ensures)
+returns-2 c = simp (ne-eqb _ _ (c .before .before .if1 .left), c .same .ensures, c .before .part .ensures)
 
 pub held-otherwise-spec : {M : Type 1} → statement M
 held-otherwise-spec =

@@ -1,0 +1,24 @@
+-- `feed::Feed::pull` meets its contract.
+use denote.Ref.{now}
+use native.Mathlib.Omega.{arith}
+use borrow.Author.Needs.{needs}
+use Rattle.feed.proofs.Pulling.{used-left, pulls}
+use Rattle.feed.proofs.Feed.pull.Statement.{statement}
+use Rattle.feed.proofs.Feed.pull.Tie as tie
+
+add-from : tie.Need-add-from
+add-from c =
+    let a = c .before .before .before .before .before .before .before .before .before .before .before .before .before .before .before .before .before .before .before .before .args in
+    omega (arith, used-left (a .self) (now (a .input)) (a .receiver) (now (a .kept)) (c .before .before .before .before .before .before .before .before .before .before .before .before .hand .ensures) (c .before .before .before .before .before .before .before .next .ensures), c .before .before .before .before .before .before .before .before .before .before .before .before .before .before .before .before .before .before .before .before .good .0, c .before .before .before .before .before .before .before .before .before .before .before .before .before .before .before .before .before .before .before .before .good .1 .1 .1 .0)
+
+returns : tie.Need-returns
+returns c =
+    let a = c .before .before .before .before .before .before .before .before .before .before .before .before .before .before .before .before .before .before .before .before .before .before .before .before .before .before .args in
+    pulls (a .self) (now (a .input)) (a .receiver) (now (a .kept)) (c .before .before .before .before .before .before .before .before .before .before .before .before .before .before .before .before .before .before .hand .ensures) (c .before .before .before .before .before .before .before .before .before .before .before .before .before .next .ensures) (c .before .before .before .tell .ensures)
+
+pub pull-spec : {M : Type 1} → statement M
+pull-spec =
+    tie.close
+    (tie.spec
+    (λ c κs. search needs) (λ c κs. search needs) add-from (λ c κs. search needs) (λ c κs. search needs) (λ c. search needs)
+    (λ c. search needs) (λ c. search needs) (λ c. search needs) returns)

@@ -1,0 +1,59 @@
+-- A call of a feed: a receiver goes on with the octets at hand, and a piece comes behind them if octets are missing.
+use Prim.Native.Nat.{ℕ}
+use mathlib.Core.Path.{_≡_}
+use mathlib.Core.List.{List, _++_}
+use mathlib.Core.Bool.{Bool}
+use lib.ListN.{length, drop}
+use lib.Dec.{eqb}
+use Rattle.octets.specs.Pick.{pick}
+use Rattle.session.specs.Lent.{Lent}
+use Rattle.source.specs.Found.{cutAt}
+use Rattle.source.specs.declared.Source.{Source}
+use Rattle.receiver.specs.Receive.{Receives}
+use Rattle.receiver.specs.declared.Receiver.{Receiver}
+use Rattle.receiver.specs.declared.Received.{Received}
+use Rattle.receiver.specs.declared.Event.{Event}
+use Rattle.receiver.specs.declared.Event.the-variants as event
+use Rattle.window.specs.Window.{hand}
+use Rattle.feed.specs.declared.Feed.{Feed}
+use Rattle.feed.specs.declared.Pull.{Pull}
+use Rattle.feed.specs.declared.Pull.the-variants as pull
+use Rattle.feed.specs.declared.Pulled.{Pulled}
+use Rattle.feed.specs.declared.Told.{Told}
+
+abbrev pub fresh : Feed
+fresh = record { at = 0; end = 0; passed = 0 }
+
+-- The octets at hand.
+abbrev pub handOf : Feed → List ℕ → List ℕ
+handOf f input = hand input (f .at) (f .end)
+
+-- If octets are missing: a read failed; some came; none came, where the input may end or not.
+unfoldable pub atEnd : Source → Bool → ℕ → Pull
+atEnd s failed came = pick failed pull.Failed (pick (eqb came 0) (pick (cutAt s) pull.Cut pull.End) pull.More)
+
+-- What is told by what the receiver tells, and a read that brought so many octets or failed.
+abbrev pub pulled : Event → Source → Bool → ℕ → Pull
+pulled (event.Missing n) s failed came = atEnd s failed came
+pulled event.Bad s failed came = pull.Bad
+pulled event.Over s failed came = pull.Bad
+pulled event.Opened s failed came = pull.Opened
+pulled event.Nothing s failed came = pull.More
+pulled (event.Answered a) s failed came = pull.Answered a
+
+-- What is told of an event by a source, and the piece that came behind the octets at hand from `from` up to end.
+pub record Tells (input : List ℕ) (from end : ℕ) (s : Source) (e : Event) (r : Told) (input′ : List ℕ) : Type 0 where
+  pub piece : List ℕ
+  pub failed : Bool
+  pub window : handOf (r .feed) input′ ≡ hand input from end ++ piece
+  pub tells : r .pull ≡ pulled e s failed (length piece)
+
+-- The contract of a call: what the receiver received of the octets at hand, the piece that came behind them, and whether the read failed.
+pub record Pulls (f : Feed) (input : List ℕ) (a : Receiver) (kept : List ℕ) (l : Lent) (r : Pulled) (input′ kept′ : List ℕ) (l′ : Lent) : Type 0 where
+  pub received : Received
+  pub piece : List ℕ
+  pub failed : Bool
+  pub calls : Receives a kept (handOf f input) l received kept′ l′
+  pub receiver : r .receiver ≡ received .receiver
+  pub window : handOf (r .feed) input′ ≡ drop (received .used) (handOf f input) ++ piece
+  pub tells : r .pull ≡ pulled (received .event) (a .source) failed (length piece)

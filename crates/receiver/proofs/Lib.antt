@@ -1,0 +1,5 @@
+pub mod Enough
+pub mod Events
+pub mod Receiving
+pub mod Run
+pub mod Unique

@@ -1,0 +1,115 @@
+// Receives frames: what a source tells opens a session or is offered to it, one section of the octets at hand a call.
+ghost use Rattle.session.specs.Lent.{lent};
+ghost use Rattle.receiver.specs.Receive.{fresh, Receives};
+ghost use mathlib.Core.Path.{_≡_};
+use session::Session;
+use session::StepAnswer;
+use source::Source;
+use source::Taken;
+use stretch::KEPT;
+
+// A source of frames, and the session that is offered them.
+pub struct Receiver {
+    pub source: Source,
+    pub session: Session,
+}
+
+// What a call tells.
+pub enum Event {
+    // That many octets are missing before more can be told.
+    Missing(usize),
+    // The recording was found bad.
+    Bad,
+    // It was bad before: nothing comes any more.
+    Over,
+    // t was told, and a session opened with it.
+    Opened,
+    // Octets were used that nothing is told of.
+    Nothing,
+    // What the session answers to what it was offered.
+    Answered(StepAnswer),
+}
+
+// The next receiver, how many octets of the window were used, and what is told.
+pub struct Received {
+    pub receiver: Receiver,
+    pub used: usize,
+    pub event: Event,
+}
+
+impl Receiver {
+    // A receiver of a recording of which nothing is read yet.
+    pub fn recording() -> Receiver
+        ensures { λ r. ⌜ r ≡ fresh ⌝ }
+    {
+        let source = Source::recording();
+        let opened = Session::open(0, 0);
+        let session = opened.session;
+        Receiver { source, session }
+    }
+
+    // Goes on with the window's first section: the packets that a frame completes are handed out as `Session::step` does. A source
+    // keeps octets in kept from one call to the next.
+    pub fn next(
+        self,
+        window: &[u8],
+        kept: &mut [u8; KEPT],
+        octets: &mut [u8],
+        lengths: &mut [u16],
+        firsts: &mut [u32],
+    ) -> Received
+        ensures { λ r. ⌜ Receives self (now (kept .entry)) (now (window .entry))
+            (lent (now (octets .entry)) (now (lengths .entry)) (now (firsts .entry))) r (now (kept .exit))
+            (lent (now (octets .exit)) (now (lengths .exit)) (now (firsts .exit))) ⌝ }
+    {
+        let before = self.source;
+        let mut session = self.session;
+        let scanned = before.scan(window, kept);
+        let source = scanned.source;
+        let taken = scanned.taken;
+        let event;
+        match taken {
+            Taken::Missing(n) => {
+                event = Event::Missing(n);
+            }
+            Taken::Bad => {
+                event = Event::Bad;
+            }
+            Taken::Over => {
+                event = Event::Over;
+            }
+            Taken::Opened(t) => {
+                let opened = Session::open(t as u8, 0);
+                session = opened.session;
+                event = Event::Opened;
+            }
+            Taken::Nothing => {
+                event = Event::Nothing;
+            }
+            Taken::Here(from, to) => {
+                let stepped = session.step(&window[from..to], octets, lengths, firsts);
+                session = stepped.session;
+                let answer = stepped.answer;
+                event = Event::Answered(answer);
+            }
+            Taken::Kept(n) => {
+                let stepped = session.step(octets::part(kept, 0, n), octets, lengths, firsts);
+                session = stepped.session;
+                let answer = stepped.answer;
+                event = Event::Answered(answer);
+            }
+            Taken::Refused(n) => {
+                let stepped = session.turn_away(n, octets, lengths, firsts);
+                session = stepped.session;
+                let answer = stepped.answer;
+                event = Event::Answered(answer);
+            }
+        }
+        let receiver = Receiver { source, session };
+        Received {
+            receiver,
+            used: scanned.used,
+            event,
+        }
+    }
+}

@@ -1,0 +1,93 @@
+// Where frames come from: what stands at the start of the octets at hand, whatever format the input has.
+ghost use mathlib.Core.Path.{_≡_};
+ghost use Rattle.source.specs.Found.{cutAt};
+ghost use Rattle.source.specs.Scan.{takenOf, fresh, Scans};
+use recording::Reader;
+use stretch::KEPT;
+
+// A source of frames, as far as it is read: a recording.
+pub struct Source {
+    pub recording: Reader,
+}
+
+// What was found at a window's start.
+pub enum Taken {
+    // That many octets are missing before more can be told.
+    Missing(usize),
+    // What may not stand there.
+    Bad,
+    // The recording was bad before.
+    Over,
+    // t, which is accepted.
+    Opened(usize),
+    // Octets that nothing is told of.
+    Nothing,
+    // A frame: the window's octets from the first index up to the second.
+    Here(usize, usize),
+    // A frame: so many of the octets kept, from the first on.
+    Kept(usize),
+    // A stretch that is refused with this number before any frame can be read.
+    Refused(u16),
+}
+
+// The source behind what was found, and how many octets of the window are used with it.
+pub struct Scanned {
+    pub source: Source,
+    pub used: usize,
+    pub taken: Taken,
+}
+
+impl Source {
+    // A recording of which nothing is read yet.
+    pub fn recording() -> Source
+        ensures { λ r. ⌜ r ≡ fresh ⌝ }
+    {
+        Source {
+            recording: Reader::Settings,
+        }
+    }
+
+    // What stands at the window's start. A stream keeps the octets of a stretch that is not yet told in kept; a recording leaves them.
+    pub fn scan(self, window: &[u8], kept: &mut [u8; KEPT]) -> Scanned
+        ensures { λ r. ⌜ Scans self (now (kept .entry)) (now (window .entry)) r (now (kept .exit)) ⌝ }
+    {
+        let before = self.recording;
+        let scanned = before.scan(window);
+        let recording = scanned.reader;
+        let section = scanned.taken;
+        let source = Source { recording };
+        let taken = told(section);
+        Scanned {
+            source,
+            used: scanned.used,
+            taken,
+        }
+    }
+
+    // Whether the input may not end there: a section is cut, or frames are missing.
+    pub fn cut(self) -> bool
+        ensures { λ r. ⌜ r ≡ cutAt self ⌝ }
+    {
+        let recording = self.recording;
+        match recording {
+            Reader::Settings => true,
+            Reader::Count => true,
+            Reader::Frames(n) => n != 0,
+            Reader::Bad => false,
+        }
+    }
+}
+
+// What a recording's reader found.
+fn told(section: recording::Taken) -> Taken
+    ensures { λ r. ⌜ r ≡ takenOf section ⌝ }
+{
+    match section {
+        recording::Taken::Missing(n) => Taken::Missing(n),
+        recording::Taken::Bad => Taken::Bad,
+        recording::Taken::Over => Taken::Over,
+        recording::Taken::Opened(t) => Taken::Opened(t),
+        recording::Taken::Nothing => Taken::Nothing,
+        recording::Taken::Here(from, to) => Taken::Here(from, to),
+    }
+}
