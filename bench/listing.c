@@ -1,8 +1,13 @@
 /* The job of crates/decode in plain C: a recording on standard input, its listing on standard output.
- * Written from document 01 alone; no header is needed, so that the kit's own clang builds it anywhere.
- * PACKET_BITS says how many bits the packet check takes at once: 4, by sixteen words, or 8, by 256. */
+ * Written from documents 01 and 02 alone; no header is needed, so that the kit's own clang builds it anywhere.
+ * PACKET_BITS says how many bits the packet check takes at once: 4, by sixteen words, or 8, by 256. SOURCE says what comes in:
+ * a recording, or KISS, with t as the program's word. */
 #ifndef PACKET_BITS
 #define PACKET_BITS 4
+#endif
+enum { RECORDING, KISS };
+#ifndef SOURCE
+#define SOURCE RECORDING
 #endif
 
 typedef unsigned char u8;
@@ -315,17 +320,22 @@ static void packet_line(u32 first, u32 arrival, const u8 *p, u32 n)
     *out_at++ = '\n';
 }
 
-static void frame_lines(u32 arrival, const u8 *f, size_t n, size_t t)
+/* The start of a frame's line, and whether more of it is told. */
+static int answered(u32 arrival, int refusal)
 {
     if (out_at > out + sizeof out - 1024)
         flush();
     number(arrival);
-    int refusal = frame_refusal(f, n, t);
     next((u32)refusal);
-    if (refusal) {
+    if (refusal)
         text(" - - - -\n", 9);
+    return !refusal;
+}
+
+static void frame_lines(u32 arrival, const u8 *f, size_t n, size_t t)
+{
+    if (!answered(arrival, frame_refusal(f, n, t)))
         return;
-    }
     struct channel *c = &channels[f[HEADER] >> 3];
     u32 lost = lost_since(&c->heard, &c->last, f[HEADER + 2]);
     u32 master = lost_since(&master_heard, &master_last, f[HEADER + 1]);
@@ -343,6 +353,8 @@ static void frame_lines(u32 arrival, const u8 *f, size_t n, size_t t)
         packet_line(packets[i].first, arrival, packets[i].octets, packets[i].length);
 }
 
+static void header(void) { text("arrival answer channel lost master packets\n", 43); }
+
 /* Whether the recording is a good one. */
 static int listed(void)
 {
@@ -350,7 +362,7 @@ static int listed(void)
         return 0;
     size_t t = in_at[4];
     in_at += 5;
-    text("arrival answer channel lost master packets\n", 43);
+    header();
     if (!have(4))
         return 0;
     u32 count = four(in_at);
@@ -367,12 +379,78 @@ static int listed(void)
     return !have(1);
 }
 
-int main(void)
+/* The frame that a stream has begun: one octet more than the longest is kept. */
+static u8 begun[FRAME_MOST + 1 + 2];
+static u32 arrivals;
+
+/* ---- KISS */
+
+enum { END = 0xC0, ESCAPE = 0xDB, ESCAPED_END = 0xDC, ESCAPED_ESCAPE = 0xDD };
+
+static void kiss_block(u32 type, u32 n, int wrong, size_t t)
+{
+    if (wrong) {
+        answered(++arrivals, 18);
+    } else if (type) {
+        answered(++arrivals, 19);
+    } else {
+        if (n + 2 <= FRAME_MOST) {
+            u16 check = frame_check(begun, n);
+            begun[n] = (u8)check;
+            begun[n + 1] = (u8)(check >> 8);
+        }
+        frame_lines(++arrivals, begun, n + 2 > FRAME_MOST ? FRAME_MOST + 1 : n + 2, t);
+    }
+}
+
+static void kiss_listed(size_t t)
+{
+    u32 seen = 0, any = 0, escaped = 0, wrong = 0, type = 0, first = 1, n = 0;
+    while (have(1)) {
+        for (; in_at < in_end; in_at++) {
+            u8 x = *in_at;
+            if (x == END) {
+                if (seen && any)
+                    kiss_block(type, n, (int)(wrong | escaped), t);
+                seen = first = 1;
+                any = escaped = wrong = type = n = 0;
+                continue;
+            }
+            any = 1;
+            if (escaped) {
+                escaped = 0;
+                if (x == ESCAPED_END)
+                    x = END;
+                else if (x == ESCAPED_ESCAPE)
+                    x = ESCAPE;
+                else
+                    wrong = 1;
+            } else if (x == ESCAPE) {
+                escaped = 1;
+                continue;
+            }
+            if (first) {
+                type = x;
+                first = 0;
+            } else if (n < FRAME_MOST) {
+                begun[n++] = x;
+            }
+        }
+        flush();
+    }
+}
+
+int main(int words, char **word)
 {
     make_tables();
     make_kinds();
-    if (!listed())
-        text("bad recording\n", 14);
+    if (SOURCE == RECORDING) {
+        if (!listed())
+            text("bad recording\n", 14);
+    } else if (words == 2) {
+        header();
+        kiss_listed((size_t)(word[1][0] - '0'));
+    }
     flush();
     return 0;
 }

@@ -1,9 +1,11 @@
 # What the commands share, sourced by each (POSIX sh): the test of what is given, the build, the run of a proved program.
-# Before it, the command sets name (the program's), what (it reads) and here (the checkout). Exit status: 0 all done; 1 an error told on standard error;
+# Before it, the command sets name (its own and the program's), what (it reads) and here (the checkout). Exit status: 0 all done; 1 an error told on standard error;
 # 2 bad usage, or not built; 141 the reader of standard output went away; 129, 130, 143 stopped by HUP, INT, TERM.
 # shellcheck disable=SC2154,SC2015
 
 room='' children=''
+# The program, where it is another than the command's: set behind this file.
+program=$name
 
 # Says a line on standard error.
 say() { printf '%s: %s\n' "$name" "$*" >&2; }
@@ -59,8 +61,8 @@ progress() {
 
 # True if no file that a proof rests on has changed since the program was last built here, with the same kit.
 unchanged() {
-    [ -x "$target/bin/$name" ] && [ "$(cat "$target/$name.built" 2>/dev/null)" = "$kit_id" ] &&
-        [ -z "$(find "$here/crates" "$here/crates.txt" -cnewer "$target/$name.built" 2>&1 | head -n 1)" ]
+    [ -x "$target/bin/$program" ] && [ "$(cat "$target/$program.built" 2>/dev/null)" = "$kit_id" ] &&
+        [ -z "$(find "$here/crates" "$here/crates.txt" -cnewer "$target/$program.built" 2>&1 | head -n 1)" ]
 }
 
 # Proves and builds the program where that is needed.
@@ -69,9 +71,9 @@ build() {
     kit_id=$(rt version) && kit=$(rt doc) && kit=$(CDPATH='' cd -- "$(dirname "$kit")/.." && pwd -P) || stop 2 "rt does not work"
     target=$here/target
     ! unchanged || return 0
-    if [ ! -x "$target/bin/$name" ]; then
+    if [ ! -x "$target/bin/$program" ]; then
         mkdir -p "$target" 2>/dev/null && [ -w "$target" ] || stop 2 "not built yet, and $here cannot be written: who owns it builds it once"
-        rm -f "$target/stamp/$name"
+        rm -f "$target/stamp/$program"
         say "proving and building, once, some minutes"
     fi
     printf '%s\n' "$kit_id" >"$room/built"
@@ -79,14 +81,14 @@ build() {
     alone=$(command -v setsid)
     progress <"$room/lines" &
     children=$!
-    (cd "$here" && TMPDIR=$room && export TMPDIR && exec $alone rt check "$name") >"$room/lines" 2>&1 </dev/null &
+    (cd "$here" && TMPDIR=$room && export TMPDIR && exec $alone rt check "$program") >"$room/lines" 2>&1 </dev/null &
     children="$children ${alone:+-}$!"
     wait "$!"
     built=$?
     wait
     children=''
-    [ "$built" -eq 0 ] && [ -x "$target/bin/$name" ] || { tail -n 20 "$room/log" >&2; stop 2 "not built"; }
-    mv -f "$room/built" "$target/$name.built" 2>/dev/null || :
+    [ "$built" -eq 0 ] && [ -x "$target/bin/$program" ] || { tail -n 20 "$room/log" >&2; stop 2 "not built"; }
+    mv -f "$room/built" "$target/$program.built" 2>/dev/null || :
 }
 
 # Passes on at once what the program says on standard error, and remembers that it did.
@@ -100,7 +102,7 @@ heard() {
 # Runs the program on what is given, its words behind it, under the kit's loader, and on Arm under its emulator.
 run() {
     tools=$kit/on/$(uname -m)/toolchain
-    set -- "$tools/lib/ld-linux-x86-64.so.2" --library-path "$tools/lib" "$target/bin/$name" "$@"
+    set -- "$tools/lib/ld-linux-x86-64.so.2" --library-path "$tools/lib" "$target/bin/$program" "$@"
     # Without erms: the emulator works such copies octet by octet.
     [ ! -x "$tools/bin/qemu-x86_64" ] || set -- "$tools/bin/qemu-x86_64" -cpu max,-erms "$@"
     heard <"$room/lines" &

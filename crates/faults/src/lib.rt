@@ -67,15 +67,21 @@ fn frame(name: &[u8], octet: u64, rest: &[u8]) {
 
 // Says why a recording is bad that its source found bad, or that ended, with these octets at hand from an octet on; nothing of a good one.
 pub fn tell(name: &[u8], octet: u64, source: Source, rest: &[u8]) {
-    let reader = source.recording;
-    tell_at(name, octet, reader, rest);
+    match source {
+        Source::Recording(reader) => tell_at(name, octet, reader, rest),
+        Source::Kiss(_) => {}
+    }
 }
 
 // The same of a recording that was found bad by a source that went on from the window's start, of which so many octets were used.
 pub fn tell_over(name: &[u8], octet: u64, source: Source, window: &[u8], used: usize) {
-    let first = source.recording;
-    if used <= window.len() {
-        tell_at(name, octet, last(first, window), &window[used..]);
+    match source {
+        Source::Recording(first) => {
+            if used <= window.len() {
+                tell_at(name, octet, last(first, window), &window[used..]);
+            }
+        }
+        Source::Kiss(_) => {}
     }
 }
 

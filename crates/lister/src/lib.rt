@@ -1,4 +1,4 @@
-// Lists a recording that comes by a descriptor, each frame's lines as soon as the frame is whole.
+// Lists a recording or a stream that comes by a descriptor, each frame's lines as soon as the frame is whole.
 //
 // What is told is listing's. Here is the loop: each turn goes on with the run that the turns before it made, and no octet is read while
 // text is unwritten. What the system's read and write did is for them to answer.
@@ -32,6 +32,16 @@ pub fn run(name: &[u8], source: i32) {
     let mut out = io::large_buffer();
     let receiver = Receiver::recording();
     turns(name, source, receiver, &mut input, &mut out);
+}
+
+// The same of a stream, by a receiver of which nothing is read yet: the header line first.
+pub fn run_stream(name: &[u8], source: i32, receiver: Receiver) {
+    let mut input = io::large_buffer();
+    let mut out = io::large_buffer();
+    let n = lines::header_line(&mut out, 0);
+    if window::unwritten(name, &out, n) == 0 {
+        turns(name, source, receiver, &mut input, &mut out);
+    }
 }
 
 // The whole run of a receiver, with an input and an output buffer. It ends with the input, a bad recording or a failed write; after

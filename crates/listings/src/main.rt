@@ -1,17 +1,34 @@
-// Lists the recordings of data/ one after another, each behind its name: good ones, and bad ones of every kind.
+// Lists the recordings and streams of data/ one after another, each behind its name: good ones, and bad ones of every kind.
 use libc::STDOUT_FILENO;
+use receiver::Receiver;
 
-// Lists the recording in the file of that name.
-fn listed(name: &[u8]) {
+// The file of that name, its name printed; below 0 if there is none, which is told.
+fn opened(name: &[u8]) -> i32 {
     io::write_all(STDOUT_FILENO, name);
     io::write_all(STDOUT_FILENO, b":\n");
     let file = os::open_read(name);
     if file < 0 {
         os::fail(name);
-        return;
     }
-    lister::run(b"listings", file);
-    libc::close(file);
+    file
+}
+
+// Lists the recording in the file of that name.
+fn listed(name: &[u8]) {
+    let file = opened(name);
+    if 0 <= file {
+        lister::run(b"listings", file);
+        libc::close(file);
+    }
+}
+
+// Lists the KISS stream in the file of that name.
+fn kiss(name: &[u8], t: u8) {
+    let file = opened(name);
+    if 0 <= file {
+        lister::run_stream(b"listings", file, Receiver::kiss(t));
+        libc::close(file);
+    }
 }
 
 // The recordings that are good.
@@ -41,7 +58,28 @@ fn bad() {
     listed(b"length-1025");
 }
 
+// KISS streams.
+fn kiss_streams() {
+    kiss(b"kiss-nothing", 0);
+    kiss(b"kiss-no-c0", 0);
+    kiss(b"kiss-the-case", 0);
+    kiss(b"kiss-every-number", 3);
+    kiss(b"kiss-refused", 0);
+    kiss(b"kiss-empty", 0);
+    kiss(b"kiss-order-19-10", 0);
+    kiss(b"kiss-short", 0);
+    kiss(b"kiss-never-11", 0);
+    kiss(b"kiss-header", 0);
+    kiss(b"kiss-t-8", 8);
+    kiss(b"kiss-octets-272-273", 0);
+    kiss(b"kiss-octets-65557", 0);
+    kiss(b"kiss-octets-65557-escaped", 0);
+    kiss(b"kiss-octets-70000-cut", 0);
+    kiss(b"kiss-before-and-after", 0);
+}
+
 fn main() {
     good();
     bad();
+    kiss_streams();
 }

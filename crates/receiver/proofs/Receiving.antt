@@ -8,7 +8,6 @@ use Rattle.octets.specs.Parts.{part}
 use Rattle.octets.proofs.Placing.{part-some}
 use Rattle.stretch.specs.Stretch.{found, unread}
 use Rattle.source.specs.Scan.{keptBy, Scans, Told}
-use Rattle.source.specs.Scan.{fresh as freshSource}
 use Rattle.source.proofs.Scanning.{scans-find}
 use Rattle.source.specs.declared.Source.{Source}
 use Rattle.source.specs.declared.Scanned.{Scanned}
@@ -20,7 +19,7 @@ use Rattle.session.specs.Step as session
 use Rattle.session.specs.Statements.{offered}
 use Rattle.session.specs.declared.Session.{Session}
 use Rattle.session.specs.declared.Stepped.{Stepped}
-use Rattle.receiver.specs.Receive.{Tells, toldOf, answered, Heard, quiet, answeredBy, heard, fresh, Receipt, receipt, received, Gives, Receives}
+use Rattle.receiver.specs.Receive.{Tells, toldOf, answered, Heard, quiet, answeredBy, heard, freshStream, Receipt, receipt, received, Gives, Receives}
 use Rattle.receiver.specs.declared.Receiver.{Receiver}
 use Rattle.receiver.specs.declared.Received.{Received}
 use Rattle.receiver.specs.declared.Event.{Event}
@@ -30,8 +29,8 @@ abbrev receiver : Source → Session → Receiver
 receiver s z = record { source = s; session = z }
 
 -- a receiver of a fresh source and session
-pub fresh-is : {a : Receiver} → a .source ≡ freshSource → a .session ≡ opening 0 0 .session → a ≡ fresh
-fresh-is {a} e d = ap (λ (s : Source). receiver s (a .session)) e ∙ ap (receiver freshSource) d
+pub fresh-is : {a : Receiver} {s : Source} (t : ℕ) → a .source ≡ s → a .session ≡ opening t 0 .session → a ≡ freshStream s t
+fresh-is {a} {s} t e d = ap (λ (x : Source). receiver x (a .session)) e ∙ ap (receiver s) d
 
 abbrev answer : Source → Session → ℕ → Event → Received
 answer s z used e = record { receiver = receiver s z; used = used; event = e }

@@ -19,11 +19,16 @@ use Rattle.receiver.specs.declared.Event.{Event}
 use Rattle.receiver.specs.declared.Event.the-variants as event
 use Rattle.receiver.proofs.Receiver.recording.Kinds as krecording
 use Rattle.receiver.proofs.Receiver.recording.Reads as rrecording
+use Rattle.receiver.proofs.Receiver.kiss.Kinds as kkiss
+use Rattle.receiver.proofs.Receiver.kiss.Reads as rkiss
 use Rattle.receiver.proofs.Receiver.next.Kinds as knext
 use Rattle.receiver.proofs.Receiver.next.Reads as rnext
 
 pub recording-fixed : Fixes krecording.ps krecording.r rrecording.Post (λ κs x s. x)
 recording-fixed = fixed krecording.ps krecording.r rrecording.Post _ _ (λ κs a x s p. p)
+
+pub kiss-fixed : Fixes kkiss.ps kkiss.r rkiss.Post (λ κs x s. x)
+kiss-fixed = fixed kkiss.ps kkiss.r rkiss.Post _ _ (λ κs a x s p. p)
 
 -- the answer that tells so, and the event
 answerOf : Told Accepted → StepAnswer

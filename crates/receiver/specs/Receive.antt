@@ -63,9 +63,13 @@ heard s kept w l (taken.Here from to) = answeredBy (offered s (found (take (to -
 heard s kept w l (taken.Kept n) = answeredBy (offered s (found (take n kept)) l)
 heard s kept w l (taken.Refused n) = answeredBy (offered s (unread n) l)
 
+-- A receiver of a stream of which nothing is read yet: t is given.
+abbrev pub freshStream : Source → ℕ → Receiver
+freshStream s t = record { source = s; session = opening t 0 .session }
+
 -- A receiver of a recording of which nothing is read yet; before t is told no frame is found.
 abbrev pub fresh : Receiver
-fresh = record { source = freshSource; session = opening 0 0 .session }
+fresh = freshStream freshSource 0
 
 -- What comes of a call: the next receiver, how many octets are used, what is told, the octets kept and the packets handed out.
 pub record Receipt : Type 0 where

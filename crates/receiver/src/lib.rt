@@ -1,6 +1,7 @@
 // Receives frames: what a source tells opens a session or is offered to it, one section of the octets at hand a call.
 ghost use Rattle.session.specs.Lent.{lent};
-ghost use Rattle.receiver.specs.Receive.{fresh, Receives};
+ghost use Rattle.source.specs.Scan.{freshKiss};
+ghost use Rattle.receiver.specs.Receive.{fresh, freshStream, Receives};
 ghost use mathlib.Core.Path.{_≡_};
 use session::Session;
 use session::StepAnswer;
@@ -44,6 +45,16 @@ impl Receiver {
     {
         let source = Source::recording();
         let opened = Session::open(0, 0);
+        let session = opened.session;
+        Receiver { source, session }
+    }
+
+    // A receiver of a KISS stream of which nothing is read yet, for frames with t octets of time.
+    pub fn kiss(t: u8) -> Receiver
+        ensures { λ r. ⌜ r ≡ freshStream freshKiss t ⌝ }
+    {
+        let source = Source::kiss();
+        let opened = Session::open(t, 0);
         let session = opened.session;
         Receiver { source, session }
     }

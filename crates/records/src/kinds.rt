@@ -36,3 +36,7 @@ pub const SESSION: u8 = 17;
 pub const SESSION_STEP: u8 = 18;
 
 pub const DAMAGE: u8 = 19;
+
+pub const KISS_IMPORT: u8 = 20;
+
+pub const KISS_EXPORT: u8 = 21;

@@ -103,6 +103,10 @@ pub const HOLDS: u8 = 19;
 
 pub const BEGUN: u8 = 20;
 
+pub const OWN: u8 = 11;
+
 pub const FRAME: u8 = 12;
 
 pub const BITS: u8 = 13;
+
+pub const PIECE: u8 = 11;

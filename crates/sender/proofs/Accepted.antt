@@ -19,7 +19,8 @@ use Rattle.rules.proofs.Lengths.{joined-cut, found-again}
 use Rattle.sender.specs.Stream.{Choice, next, framesBy}
 use Rattle.sender.specs.Sender.{sentOctets}
 use Rattle.sender.specs.Frames.{Wanted, packetsOf, framedFrom, fullFrames, choicesOf, framesOf}
-use Rattle.sender.specs.Send.{Lent, Outcome, refused, commonWrong, lengthsWrong, anyTurnedAway, sizeWrong, roomWrong, observed, made, octetsOf, sentOf, tells, countAfter, sending, emptyOctets}
+use Rattle.lengths.specs.Lengths.{lengthsWrong}
+use Rattle.sender.specs.Send.{Lent, Outcome, refused, commonWrong, anyTurnedAway, sizeWrong, roomWrong, observed, made, octetsOf, sentOf, tells, countAfter, sending, emptyOctets}
 use Rattle.sender.specs.Calls.{SendCall, EmptyCall, Call, sends, empties, Does, commonOf, masterOf, countOf, sentBy, leftBy, madeBy, packetsBy, taken}
 use Rattle.sender.specs.declared.Sent.{Sent}
 use Rattle.sender.specs.declared.SendAnswer.the-variants as answer

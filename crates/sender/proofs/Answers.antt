@@ -19,7 +19,8 @@ use Rattle.packet.specs.Packet.{lengthWrong, readPacket}
 use Rattle.packet.specs.declared.Packet.{Packet}
 use Rattle.rules.specs.Packets.{Good, AllGood, joined, total}
 use Rattle.sender.specs.Frames.{Wanted, packetsOf, fullFrames}
-use Rattle.sender.specs.Send.{Lent, Outcome, refused, commonWrong, lengthsWrong, turnedAway, anyTurnedAway, sizeWrong, roomWrong, made, octetsOf, sending}
+use Rattle.lengths.specs.Lengths.{lengthsWrong}
+use Rattle.sender.specs.Send.{Lent, Outcome, refused, commonWrong, turnedAway, anyTurnedAway, sizeWrong, roomWrong, made, octetsOf, sending}
 use Rattle.sender.specs.Asked.{tooShort, Ready}
 use Rattle.sender.proofs.One.{time-most, time-lent}
 use Rattle.sender.proofs.Numbered.{octetsUpTo, full-least, full-most, octets-upto, upto-count, upto-more, octets-length}

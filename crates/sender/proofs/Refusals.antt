@@ -12,7 +12,7 @@ use lib.Dec.{ltb, leb, eqb}
 use borrow.Author.Tests.{lt-ltb, le-ltb, eq-eqb, ne-eqb}
 use Rattle.rules.specs.Packets.{cut, total}
 use Rattle.rules.proofs.Standing.{Order, upTo, past, order}
-use Rattle.rules.proofs.Lengths.{total-front, total-all, total-next}
+use Rattle.lengths.proofs.Reached.{Reached, reached-first, reached-fits, reached-next, cut-here, cut-over}
 use Rattle.packet.specs.Packet.{readPacket}
 use Rattle.packet.specs.Packet as packets
 use Rattle.packet.specs.declared.Packet.{Packet}
@@ -20,33 +20,8 @@ use Rattle.packet.specs.declared.PacketRead.{PacketRead}
 use Rattle.packet.specs.declared.PacketRead.the-variants as read
 use Rattle.answer.specs.Told.{Told}
 use Rattle.sender.specs.Frames.{fullFrames}
-use Rattle.sender.specs.Send.{lengthsWrong, turnedAway, anyTurnedAway}
+use Rattle.sender.specs.Send.{turnedAway, anyTurnedAway}
 use Rattle.sender.specs.Asked.{tooShort}
-
--- ---- 51: what is left of n after the first i lengths
-
-pub record Left (ns : List ℕ) (n left i : ℕ) : Type 0 where
-  pub inside : i ≤ length ns
-  pub even : left + total (take i ns) ≡ n
-
-pub left-first : (ns : List ℕ) (n : ℕ) → Left ns n n 0
-left-first ns n = record { inside = omega arith; even = omega arith }
-
-module _ {ns : List ℕ} {n left i : ℕ} (t : Left ns n left i) where
-  pub left-next : i < length ns → getD ns i 0 ≤ left → Left ns n (left - getD ns i 0) (i + 1)
-  left-next h l = record { inside = omega arith; even = omega (arith, t .even, total-next ns i h) }
-
-  pub left-short : i < length ns → left < getD ns i 0 → true ≡ lengthsWrong ns n
-  left-short h l =
-      let more : n < total ns = omega (arith, t .even, total-next ns i h, total-front (i + 1) ns) in
-      sym (ap not (ne-eqb (total ns) n (λ q. omega arith)))
-
-  pub left-end : length ns ≤ i → not (eqb left 0) ≡ lengthsWrong ns n
-  left-end h = go left (omega (arith, t .even, total-all ns i h))
-    where
-      go : (k : ℕ) → k + total ns ≡ n → not (eqb k 0) ≡ not (eqb (total ns) n)
-      go zero e = sym (ap not (eq-eqb (total ns) n (omega arith)))
-      go (suc k) e = ap not (ne-eqb (suc k) 0 (λ q. omega arith)) ∙ sym (ap not (ne-eqb (total ns) n (λ q. omega arith)))
 
 -- ---- 52
 
@@ -61,23 +36,19 @@ told-refused s {r} a b = ap (λ (q : PacketRead). not (packets.told q .accepted)
 
 -- the packets from number i on, the first of which starts at `at`
 pub record Seen (d ns : List ℕ) (at i : ℕ) : Type 0 where
-  pub inside : i ≤ length ns
-  pub starts : at ≡ total (take i ns)
+  pub reached : Reached ns at i
   pub same : anyTurnedAway (cut (drop at d) (drop i ns)) ≡ anyTurnedAway (cut d ns)
 
 pub seen-first : (d ns : List ℕ) → Seen d ns 0 0
-seen-first d ns = record { inside = omega arith; starts = refl; same = refl }
+seen-first d ns = record { reached = reached-first ns; same = refl }
 
 module _ {d ns : List ℕ} {at i : ℕ} (t : Seen d ns at i) where
   pub seen-fits : total ns ≡ length d → i < length ns → at + getD ns i 0 ≤ length d
-  seen-fits e h = omega (arith, t .starts, total-next ns i h, total-front (i + 1) ns)
+  seen-fits e h = reached-fits (t .reached) d e h
 
   module _ (h : i < length ns) where
     front : anyTurnedAway (cut d ns) ≡ (turnedAway (take (getD ns i 0) (drop at d)) || anyTurnedAway (cut (drop (at + getD ns i 0) d) (drop (i + 1) ns)))
-    front =
-        sym (t .same)
-        ∙ ap (λ (l : List ℕ). anyTurnedAway (cut (drop at d) l)) (drop-cons ns i 0 h ∙ ap (λ (j : ℕ). getD ns i 0 ∷ drop j ns) (sym (add-one i)))
-        ∙ rw drop-drop
+    front = sym (t .same) ∙ ap anyTurnedAway (cut-here d ns at i h)
 
     here : {said : Bool} → said ≡ turnedAway (take ((at + getD ns i 0) - at) (drop at d)) → turnedAway (take (getD ns i 0) (drop at d)) ≡ said
     here p =
@@ -89,18 +60,10 @@ module _ {d ns : List ℕ} {at i : ℕ} (t : Seen d ns at i) where
 
     pub seen-next : {said : Bool} → said ≡ turnedAway (take ((at + getD ns i 0) - at) (drop at d)) → said ≡ false
         → Seen d ns (at + getD ns i 0) (i + 1)
-    seen-next p q =
-        record {
-          inside = omega arith;
-          starts = omega (arith, t .starts, total-next ns i h);
-          same = sym (front ∙ rw (here p ∙ q));
-        }
+    seen-next p q = record { reached = reached-next (t .reached) h; same = sym (front ∙ rw (here p ∙ q)) }
 
   pub seen-end : length ns ≤ i → false ≡ anyTurnedAway (cut d ns)
-  seen-end h =
-      let e : i ≡ length ns = omega (arith, t .inside) in
-      let none : drop i ns ≡ [] = rw e (drop-length ns) in
-      sym (ap (λ (l : List ℕ). anyTurnedAway (cut (drop at d) l)) none) ∙ t .same
+  seen-end h = sym (ap anyTurnedAway (cut-over (drop at d) ns i h)) ∙ t .same
 
 -- ---- 50
 

@@ -13,7 +13,8 @@ use Rattle.answer.specs.Writer.{left}
 use Rattle.frame.specs.Limits.{longestData}
 use Rattle.frame.specs.Write.{fieldsWrong}
 use Rattle.packet.specs.Packet.{readPacket}
-use Rattle.rules.specs.Packets.{joined, total}
+use Rattle.rules.specs.Packets.{joined}
+use Rattle.lengths.specs.Lengths.{lengthsWrong}
 use Rattle.sender.specs.Sender.{sentOctets}
 use Rattle.sender.specs.Frames.{Wanted, packetsOf, emptyFrame, framesOf}
 use Rattle.sender.specs.declared.Common.{Common}
@@ -67,10 +68,6 @@ sentOf master count frames = tells master count (length frames) (length (joined 
 -- 51: a frame field but the data length out of range.
 abbrev pub commonWrong : Common → ℕ → ℕ → List ℕ → Bool
 commonWrong c master count time = fieldsWrong (emptyFrame c time master count .fields) (c .t) 0 (length time)
-
--- 51: packet lengths that don't add up to the octets lent.
-abbrev pub lengthsWrong : List ℕ → ℕ → Bool
-lengthsWrong lengths n = not (eqb (total lengths) n)
 
 -- 52: a packet that the packet reader turns away.
 abbrev pub turnedAway : List ℕ → Bool

@@ -55,9 +55,7 @@ pub fn send(
         (lent (now (out .entry)) (now (frames .entry))) ⌝ }
 {
     let total = packets.len();
-    if refusing::fields_wrong(common, master, count, time)
-        | refusing::lengths_wrong(lengths, total)
-    {
+    if refusing::fields_wrong(common, master, count, time) | lengths::wrong(lengths, total) {
         return SendAnswer::Refused(answer::FIELD_RANGE);
     }
     if refusing::packets_wrong(packets, lengths) {

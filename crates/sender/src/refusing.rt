@@ -3,7 +3,7 @@ ghost use mathlib.Core.Path.{_≡_};
 ghost use lib.ListN.{length};
 ghost use Prim.Native.Nat.{_≤_};
 ghost use Rattle.rules.specs.Packets.{cut, total};
-ghost use Rattle.sender.specs.Send.{commonWrong, lengthsWrong, turnedAway, anyTurnedAway};
+ghost use Rattle.sender.specs.Send.{commonWrong, turnedAway, anyTurnedAway};
 ghost use Rattle.sender.specs.Asked.{tooShort};
 use super::Common;
 use super::SendAnswer;
@@ -30,23 +30,6 @@ pub(crate) fn fields_wrong(
         SendAnswer::Sent(_) => false,
         SendAnswer::Refused(_) => true,
     }
-}
-
-// Refusal 51, of lengths: they don't add up to n.
-pub(crate) fn lengths_wrong(lengths: &[u16], n: usize) -> bool
-    ensures { λ r. ⌜ r ≡ lengthsWrong (now (lengths .entry)) n ⌝ }
-{
-    let mut left = n;
-    let mut i = 0;
-    while i < lengths.len() {
-        let length = lengths[i] as usize;
-        if left < length {
-            return true;
-        }
-        left -= length;
-        i += 1;
-    }
-    left != 0
 }
 
 // Whether the packet reader turns a packet away.

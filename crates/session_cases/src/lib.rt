@@ -10,6 +10,7 @@ use session::Channel;
 use session::OpenAnswer;
 use session::Session;
 use session::StepAnswer;
+use session::Stepped;
 
 // Whether a channel is fresh, its whole array too.
 fn fresh(c: Channel) -> bool {
@@ -113,6 +114,21 @@ fn loss(name: &[u8], l: Loss) {
     }
 }
 
+// What comes of what is offered: a frame, or, where the case names its refusal, a stretch that is turned away.
+fn offer(
+    c: &[u8],
+    s: Session,
+    octets: &mut [u8],
+    lengths: &mut [u16],
+    firsts: &mut [u32],
+) -> Stepped {
+    let own = input::octet(c, places::OWN);
+    if own == 0 {
+        return s.step(input::block(c, places::INPUT), octets, lengths, firsts);
+    }
+    s.turn_away(own as u16, octets, lengths, firsts)
+}
+
 pub fn step(
     c: &[u8],
     s: Session,
@@ -120,7 +136,7 @@ pub fn step(
     lengths: &mut [u16],
     firsts: &mut [u32],
 ) -> Session {
-    let stepped = s.step(input::block(c, places::INPUT), octets, lengths, firsts);
+    let stepped = offer(c, s, octets, lengths, firsts);
     let answer = stepped.answer;
     let next = stepped.session;
     match answer {

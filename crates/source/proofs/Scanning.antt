@@ -17,21 +17,28 @@ use Rattle.recording.specs.declared.Scanned.{Scanned as SectionScanned}
 use Rattle.source.specs.Found.{Item, offers, opens, one, joined, isBad, isCut, ofRecording, foundBy, foundIn}
 use Rattle.source.specs.Scan.{takenOf, sectionScanned, scanned, keptBy, Scans, tells, Waits, Told, Finds, ScansFind}
 use Rattle.source.specs.declared.Source.{Source}
+use Rattle.source.specs.declared.Source.the-variants as source
 use Rattle.source.specs.declared.Taken.{Taken}
 use Rattle.source.specs.declared.Taken.the-variants as taken
 use Rattle.source.specs.declared.Scanned.{Scanned}
+use Rattle.source.proofs.Streaming.{kiss-finds}
 
 abbrev of : Reader → Source
-of a = record { recording = a }
+of a = source.Recording a
 
 -- what the recording's reader answers is what is scanned
-pub section-scans : (a : Reader) (kept w : List ℕ) {q : SectionScanned} {t : Taken} → q ≡ reading.scanned a w → t ≡ takenOf (q .taken)
+section-scanned : (a : Reader) (kept w : List ℕ) {q : SectionScanned} {t : Taken} → q ≡ reading.scanned a w → t ≡ takenOf (q .taken)
     → Scans (of a) kept w (record { source = of (q .reader); used = q .used; taken = t }) kept
 unfolding scanned keptBy
-section-scans a kept w {q} e d = record {
+section-scanned a kept w {q} e d = record {
   answers = ap (λ (x : Taken). record { source = of (q .reader); used = q .used; taken = x }) d ∙ ap sectionScanned e;
   keeps = refl;
 }
+
+pub section-scans : {s : Source} {a : Reader} {kept w : List ℕ} {q : SectionScanned} {t : Taken} → s ≡ of a → q ≡ reading.scanned a w → t ≡ takenOf (q .taken)
+    → Scans s kept w (record { source = of (q .reader); used = q .used; taken = t }) kept
+section-scans {s} {a} {kept} {w} {q} {t} h e d =
+    subst (λ (x : Source). Scans x kept w (record { source = of (q .reader); used = q .used; taken = t }) kept) (sym h) (section-scanned a kept w e d)
 
 abbrev itemsOf : List ℕ → List (List ℕ) → List Item
 itemsOf ts fs = map opens ts ++ map (λ x. offers (found x)) fs
@@ -114,11 +121,16 @@ module _ (a : Reader) (kept w : List ℕ) {q : SectionScanned} (f : reading.Find
   section-finds : Finds (of a) kept w answer kept
   section-finds = record { next = law (q .taken) refl; inside = f .inside; told = tells-so (q .taken) refl }
 
-finds : {s : Source} {kept w : List ℕ} {r : Scanned} {kept′ : List ℕ} → Scans s kept w r kept′ → Finds s kept w r kept′
+-- what a source of any kind finds
+all-find : (s : Source) (kept w : List ℕ) → Finds s kept w (scanned s kept w) (keptBy s kept w)
 unfolding scanned keptBy
+all-find (source.Recording a) kept w = section-finds a kept w (sections-find a w)
+all-find (source.Kiss a) kept w = kiss-finds a kept w
+
+finds : {s : Source} {kept w : List ℕ} {r : Scanned} {kept′ : List ℕ} → Scans s kept w r kept′ → Finds s kept w r kept′
 finds {s} {kept} {w} {r} {kept′} x =
     subst (λ (k : List ℕ). Finds s kept w r k) (sym (x .keeps))
-    (subst (λ (q : Scanned). Finds s kept w q kept) (sym (x .answers)) (section-finds (s .recording) kept w (sections-find (s .recording) w)))
+    (subst (λ (q : Scanned). Finds s kept w q (keptBy s kept w)) (sym (x .answers)) (all-find s kept w))
 
 pub scans-find : ScansFind
 scans-find = record { finds = finds }

@@ -10,6 +10,8 @@ use Rattle.source.specs.declared.Source.{Source}
 use Rattle.source.specs.declared.Scanned.{Scanned}
 use Rattle.source.proofs.Source.recording.Kinds as krecording
 use Rattle.source.proofs.Source.recording.Reads as rrecording
+use Rattle.source.proofs.Source.kiss.Kinds as kkiss
+use Rattle.source.proofs.Source.kiss.Reads as rkiss
 use Rattle.source.proofs.Source.scan.Kinds as kscan
 use Rattle.source.proofs.Source.scan.Reads as rscan
 use Rattle.source.proofs.Source.cut.Kinds as kcut
@@ -17,6 +19,9 @@ use Rattle.source.proofs.Source.cut.Reads as rcut
 
 pub recording-fixed : Fixes krecording.ps krecording.r rrecording.Post (λ κs x s. x)
 recording-fixed = fixed krecording.ps krecording.r rrecording.Post _ _ (λ κs a x s p. p)
+
+pub kiss-fixed : Fixes kkiss.ps kkiss.r rkiss.Post (λ κs x s. x)
+kiss-fixed = fixed kkiss.ps kkiss.r rkiss.Post _ _ (λ κs a x s p. p)
 
 -- the answer and the octets kept afterwards
 one-scan : {s : Source} {kept w : List ℕ} {r q : Scanned} {kept₁ kept₂ : List ℕ} → Scans s kept w r kept₁ → Scans s kept w q kept₂ → _≡_ {A = Scanned × List ℕ} (r, kept₁) (q, kept₂)

@@ -8,7 +8,9 @@ use Rattle.recording.specs.Pieces as recording
 use Rattle.recording.specs.Reader.{stateOf}
 use Rattle.recording.specs.declared.Reader.{Reader}
 use Rattle.recording.specs.declared.Reader.the-variants as reader
+use Rattle.kiss.specs.Reader as kiss
 use Rattle.source.specs.declared.Source.{Source}
+use Rattle.source.specs.declared.Source.the-variants as source
 
 -- What a source tells, one after another: t of a session that is opened, and what the session is offered.
 pub data Item : Type 0 where
@@ -61,12 +63,20 @@ foundBy reader.Count w = ofRecording (recording.found (stateOf reader.Count w))
 foundBy (reader.Frames n) w = ofRecording (recording.found (stateOf (reader.Frames n) w))
 foundBy reader.Bad w = nothing
 
+-- ---- a stream
+
+-- All that is found is offered, and a stream may end anywhere.
+abbrev pub ofStream : List Stretch → Found
+ofStream xs = record { items = map offers xs; bad = false; cut = false }
+
 -- ---- any source
 
 -- All that can be found by a source that keeps these octets, w being at hand.
 abbrev pub foundIn : Source → List ℕ → List ℕ → Found
-foundIn s kept w = foundBy (s .recording) w
+foundIn (source.Recording a) kept w = foundBy a w
+foundIn (source.Kiss a) kept w = ofStream (kiss.toFind (kiss.standing a kept) w)
 
 -- Whether the input may not end where a source stands.
 abbrev pub cutAt : Source → Bool
-cutAt s = isCut (stateOf (s .recording) [])
+cutAt (source.Recording a) = isCut (stateOf a [])
+cutAt (source.Kiss a) = false

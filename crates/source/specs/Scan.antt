@@ -1,5 +1,5 @@
 -- A scan of a source: what it makes of the octets at hand.
-use Prim.Native.Nat.{ℕ, _+_, _-_, _≤_, _<_}
+use Prim.Native.Nat.{ℕ, zero, suc, _+_, _-_, _≤_, _<_}
 use mathlib.Core.Path.{_≡_}
 use mathlib.Core.List.{List, [], _∷_, _++_}
 use mathlib.Core.Bool.{true, false}
@@ -12,14 +12,21 @@ use Rattle.recording.specs.declared.Taken.{Taken as Section}
 use Rattle.recording.specs.declared.Taken.the-variants as section
 use Rattle.recording.specs.declared.Scanned.{Scanned as SectionScanned}
 use Rattle.source.specs.Found.{opens, offers, Found, nothing, one, joined, foundIn, cutAt}
+use Rattle.stretch.specs.declared.Found.{Found as Stretched}
+use Rattle.stretch.specs.declared.Found.the-variants as stretched
+use Rattle.kiss.specs.Reader as kiss
 use Rattle.source.specs.declared.Source.{Source}
+use Rattle.source.specs.declared.Source.the-variants as source
 use Rattle.source.specs.declared.Taken.{Taken}
 use Rattle.source.specs.declared.Taken.the-variants as taken
 use Rattle.source.specs.declared.Scanned.{Scanned}
 
--- A recording of which nothing is read yet.
+-- A recording, and a KISS stream, of which nothing is read yet.
 abbrev pub fresh : Source
-fresh = record { recording = reader.Settings }
+fresh = source.Recording reader.Settings
+
+abbrev pub freshKiss : Source
+freshKiss = source.Kiss kiss.fresh
 
 abbrev pub takenOf : Section → Taken
 takenOf (section.Missing n) = taken.Missing n
@@ -30,14 +37,32 @@ takenOf section.Nothing = taken.Nothing
 takenOf (section.Here from to) = taken.Here from to
 
 abbrev pub sectionScanned : SectionScanned → Scanned
-sectionScanned r = record { source = record { recording = r .reader }; used = r .used; taken = takenOf (r .taken) }
+sectionScanned r = record { source = source.Recording (r .reader); used = r .used; taken = takenOf (r .taken) }
+
+abbrev pub stretchTaken : Stretched → Taken
+stretchTaken stretched.Nothing = taken.Nothing
+stretchTaken (stretched.Frame n) = taken.Kept n
+stretchTaken (stretched.Refused n) = taken.Refused n
+
+-- What a stream's reader found in so many octets: with none at hand one is missing.
+unfoldable pub streamTaken : ℕ → Stretched → Taken
+streamTaken zero f = taken.Missing 1
+streamTaken (suc n) f = stretchTaken f
+
+abbrev pub streamScanned : Source → ℕ → ℕ → Stretched → Scanned
+streamScanned s used size f = record { source = s; used = used; taken = streamTaken size f }
+
+abbrev pub ofKiss : kiss.Outcome → ℕ → Scanned
+ofKiss r size = streamScanned (source.Kiss (r .standing .reader)) (r .used) size (r .found)
 
 -- What a scan of w answers, by a source that keeps these octets, and what it keeps then: a recording's reader keeps nothing.
 unfoldable pub scanned : Source → List ℕ → List ℕ → Scanned
-scanned s kept w = sectionScanned (recording.scanned (s .recording) w)
+scanned (source.Recording a) kept w = sectionScanned (recording.scanned a w)
+scanned (source.Kiss a) kept w = ofKiss (kiss.scanned (kiss.standing a kept) w) (length w)
 
 unfoldable pub keptBy : Source → List ℕ → List ℕ → List ℕ
-keptBy s kept w = kept
+keptBy (source.Recording a) kept w = kept
+keptBy (source.Kiss a) kept w = kiss.scanned (kiss.standing a kept) w .standing .kept
 
 -- The contract of a scan: kept and kept′ are the octets kept before and after.
 pub record Scans (s : Source) (kept w : List ℕ) (r : Scanned) (kept′ : List ℕ) : Type 0 where

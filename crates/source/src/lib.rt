@@ -1,13 +1,15 @@
 // Where frames come from: what stands at the start of the octets at hand, whatever format the input has.
 ghost use mathlib.Core.Path.{_≡_};
 ghost use Rattle.source.specs.Found.{cutAt};
-ghost use Rattle.source.specs.Scan.{takenOf, fresh, Scans};
+ghost use Rattle.source.specs.Scan.{takenOf, streamTaken, fresh, freshKiss, Scans};
 use recording::Reader;
+use stretch::Found;
 use stretch::KEPT;
 
-// A source of frames, as far as it is read: a recording.
-pub struct Source {
-    pub recording: Reader,
+// A source of frames, as far as it is read.
+pub enum Source {
+    Recording(Reader),
+    Kiss(kiss::Reader),
 }
 
 // What was found at a window's start.
@@ -42,39 +44,74 @@ impl Source {
     pub fn recording() -> Source
         ensures { λ r. ⌜ r ≡ fresh ⌝ }
     {
-        Source {
-            recording: Reader::Settings,
-        }
+        Source::Recording(Reader::Settings)
+    }
+
+    // A KISS stream of which nothing is read yet.
+    pub fn kiss() -> Source
+        ensures { λ r. ⌜ r ≡ freshKiss ⌝ }
+    {
+        let reader = kiss::Reader::new();
+        Source::Kiss(reader)
     }
 
     // What stands at the window's start. A stream keeps the octets of a stretch that is not yet told in kept; a recording leaves them.
     pub fn scan(self, window: &[u8], kept: &mut [u8; KEPT]) -> Scanned
         ensures { λ r. ⌜ Scans self (now (kept .entry)) (now (window .entry)) r (now (kept .exit)) ⌝ }
     {
-        let before = self.recording;
-        let scanned = before.scan(window);
-        let recording = scanned.reader;
-        let section = scanned.taken;
-        let source = Source { recording };
-        let taken = told(section);
-        Scanned {
-            source,
-            used: scanned.used,
-            taken,
+        match self {
+            Source::Recording(before) => {
+                let scanned = before.scan(window);
+                let reader = scanned.reader;
+                let section = scanned.taken;
+                let taken = told(section);
+                Scanned {
+                    source: Source::Recording(reader),
+                    used: scanned.used,
+                    taken,
+                }
+            }
+            Source::Kiss(before) => {
+                let scanned = before.scan(window, kept);
+                let reader = scanned.reader;
+                let found = scanned.found;
+                let taken = stream_told(window.len(), found);
+                Scanned {
+                    source: Source::Kiss(reader),
+                    used: scanned.used,
+                    taken,
+                }
+            }
         }
     }
 
-    // Whether the input may not end there: a section is cut, or frames are missing.
+    // Whether the input may not end there: a section is cut, or frames are missing. A stream may end anywhere.
     pub fn cut(self) -> bool
         ensures { λ r. ⌜ r ≡ cutAt self ⌝ }
     {
-        let recording = self.recording;
-        match recording {
-            Reader::Settings => true,
-            Reader::Count => true,
-            Reader::Frames(n) => n != 0,
-            Reader::Bad => false,
+        match self {
+            Source::Recording(reader) => match reader {
+                Reader::Settings => true,
+                Reader::Count => true,
+                Reader::Frames(n) => n != 0,
+                Reader::Bad => false,
+            },
+            Source::Kiss(_) => false,
         }
+    }
+}
+
+// What a stream's reader found in so many octets: with none at hand one is missing.
+fn stream_told(size: usize, found: Found) -> Taken
+    ensures { λ r. ⌜ r ≡ streamTaken size found ⌝ }
+{
+    if size == 0 {
+        return Taken::Missing(1);
+    }
+    match found {
+        Found::Nothing => Taken::Nothing,
+        Found::Frame(n) => Taken::Kept(n),
+        Found::Refused(n) => Taken::Refused(n),
     }
 }
 

@@ -33,8 +33,8 @@ returns-4 c =
 
 returns-5 : tie.Need-returns-5
 returns-5 c =
-    let a = c .before .before .before .before .before .before .before .before .before .before .before .before .before .before .before .before .before .before .before .before .before .before .before .before .before .before .before .before .before .args in
-    turned-cut (a .state) (now (a .input)) (now (a .kept)) (c .before .before .before .before .before .before .before .before .before .before .before .before .before .before .before .before .before .before .before .before .before .before .before .hand .ensures) (c .before .before .before .before .before .before .before .before .before .before .before .before .before .before .before .before .before .before .before .before .next .ensures) (c .before .before .before .before .before .before .before .before .before .refill .ensures) (c .before .before .before .before .before .before .before .before .before .before .before .enum-told3 .given .1) (omega (arith, c .before .before .before .before .before .if2 .left))
+    let a = c .before .before .before .before .before .before .before .before .before .before .before .before .before .before .before .before .before .before .before .before .before .before .before .before .before .before .before .before .args in
+    turned-cut (a .state) (now (a .input)) (now (a .kept)) (c .before .before .before .before .before .before .before .before .before .before .before .before .before .before .before .before .before .before .before .before .before .before .hand .ensures) (c .before .before .before .before .before .before .before .before .before .before .before .before .before .before .before .before .before .before .before .next .ensures) (c .before .before .before .before .before .before .before .before .refill .ensures) (c .before .before .before .before .before .before .before .before .before .before .enum-told3 .given .1) (omega (arith, c .before .before .before .before .if2 .left))
 
 pub turn-spec : {M : Type 1} → statement M
 turn-spec =

@@ -17,12 +17,12 @@ abbrev μ-loop : tie.MeasureT-loop
 μ-loop name source input₀ out₀ kept₀ state₀ left₀ before₀ from₀ passed₀ input out kept state left before from passed = left
 
 loop-holds : tie.Need-loop-holds Inv-loop μ-loop
-loop-holds c = (refl, refl, at-first _ _ (now (c .before .before .before .before .args .input)))
+loop-holds c = (refl, refl, at-first _ _ (now (c .before .before .before .args .input)))
 
 loop-again : tie.Need-loop-again Inv-loop μ-loop
 loop-again c =
     let t = c .before .before .before .before .before .turn in
-    let l = c .before .before .before .before .before .before .before .before .before .before .before .before .before .before .loop in
+    let l = c .before .before .before .before .before .before .before .before .before .before .before .before .before .loop in
     (t .kept .1 .1 .0 ∙ l .inv .0, t .kept .1 .1 .1 .1 .0 ∙ l .inv .1, went-on (t .ensures) (l .inv .2))
 
 pub turns-spec : {M : Type 1} → statement M

@@ -11,42 +11,42 @@ returns c =
     let a = c .before .before .before .before .before .before .before .before .args in
     let w = wanted (a .common) (a .master) (a .count) (a .time .now) (a .packets .now) (a .lengths .now) (a .size) in
     let l = lent (a .out .now) (a .frames .now) in
-    sent-51 w l (c .before .before .fields-wrong .ensures) (c .before .lengths-wrong .ensures) (c .if1 .taken)
+    sent-51 w l (c .before .before .fields-wrong .ensures) (c .before .wrong .ensures) (c .if1 .taken)
 
 packets-wrong-requires : tie.Need-packets-wrong-requires
 packets-wrong-requires c κs =
     let a = c .before .before .before .before .before .before .before .before .args in
     let w = wanted (a .common) (a .master) (a .count) (a .time .now) (a .packets .now) (a .lengths .now) (a .size) in
     let l = lent (a .out .now) (a .frames .now) in
-    adds w l (c .before .before .fields-wrong .ensures) (c .before .lengths-wrong .ensures) (c .if1 .left)
+    adds w l (c .before .before .fields-wrong .ensures) (c .before .wrong .ensures) (c .if1 .left)
 
 returns-2 : tie.Need-returns-2
 returns-2 c =
     let a = c .before .before .before .before .before .before .before .before .before .before .args in
     let w = wanted (a .common) (a .master) (a .count) (a .time .now) (a .packets .now) (a .lengths .now) (a .size) in
     let l = lent (a .out .now) (a .frames .now) in
-    sent-52 w l (c .before .before .before .before .fields-wrong .ensures) (c .before .before .before .lengths-wrong .ensures) (c .before .before .if1 .left) (c .before .packets-wrong .ensures) (c .if2 .taken)
+    sent-52 w l (c .before .before .before .before .fields-wrong .ensures) (c .before .before .before .wrong .ensures) (c .before .before .if1 .left) (c .before .packets-wrong .ensures) (c .if2 .taken)
 
 sub-if3-2 : tie.Need-sub-if3-2
 sub-if3-2 c =
     let a = c .before .before .before .before .before .before .before .before .before .before .before .args in
     let w = wanted (a .common) (a .master) (a .count) (a .time .now) (a .packets .now) (a .lengths .now) (a .size) in
     let l = lent (a .out .now) (a .frames .now) in
-    omega (arith, c .wide .ensures, time-few w l (c .before .before .before .before .before .fields-wrong .ensures) (c .before .before .before .before .lengths-wrong .ensures) (c .before .before .before .if1 .left))
+    omega (arith, c .wide .ensures, time-few w l (c .before .before .before .before .before .fields-wrong .ensures) (c .before .before .before .before .wrong .ensures) (c .before .before .before .if1 .left))
 
 returns-3 : tie.Need-returns-3
 returns-3 c =
     let a = c .before .before .before .before .before .before .before .before .before .before .before .before .args in
     let w = wanted (a .common) (a .master) (a .count) (a .time .now) (a .packets .now) (a .lengths .now) (a .size) in
     let l = lent (a .out .now) (a .frames .now) in
-    sent-53 w l (c .before .before .before .before .before .before .fields-wrong .ensures) (c .before .before .before .before .before .lengths-wrong .ensures) (c .before .before .before .before .if1 .left) (c .before .before .before .packets-wrong .ensures) (c .before .before .if2 .left) (size-at (a .size) (c .before .wide .ensures) (c .if3 .taken))
+    sent-53 w l (c .before .before .before .before .before .before .fields-wrong .ensures) (c .before .before .before .before .before .wrong .ensures) (c .before .before .before .before .if1 .left) (c .before .before .before .packets-wrong .ensures) (c .before .before .if2 .left) (size-at (a .size) (c .before .wide .ensures) (c .if3 .taken))
 
 full-frames-requires : tie.Need-full-frames-requires
 full-frames-requires c κs =
     let a = c .before .before .before .before .before .before .before .before .before .before .before .before .args in
     let w = wanted (a .common) (a .master) (a .count) (a .time .now) (a .packets .now) (a .lengths .now) (a .size) in
     let l = lent (a .out .now) (a .frames .now) in
-    size-some w l (c .before .before .before .before .before .before .fields-wrong .ensures) (c .before .before .before .before .before .lengths-wrong .ensures) (c .before .before .before .before .if1 .left) (c .before .before .before .packets-wrong .ensures) (c .before .before .if2 .left)
+    size-some w l (c .before .before .before .before .before .before .fields-wrong .ensures) (c .before .before .before .before .before .wrong .ensures) (c .before .before .before .before .if1 .left) (c .before .before .before .packets-wrong .ensures) (c .before .before .if2 .left)
     (size-at (a .size) (c .before .wide .ensures) (c .if3 .left))
 
 room-wrong-requires : tie.Need-room-wrong-requires
@@ -54,14 +54,14 @@ room-wrong-requires c κs =
     let a = c .before .before .before .before .before .before .before .before .before .before .before .before .before .args in
     let w = wanted (a .common) (a .master) (a .count) (a .time .now) (a .packets .now) (a .lengths .now) (a .size) in
     let l = lent (a .out .now) (a .frames .now) in
-    (let h = time-few w l (c .before .before .before .before .before .before .before .fields-wrong .ensures) (c .before .before .before .before .before .before .lengths-wrong .ensures) (c .before .before .before .before .before .if1 .left) in omega (arith, h, c .before .before .wide .ensures))
+    (let h = time-few w l (c .before .before .before .before .before .before .before .fields-wrong .ensures) (c .before .before .before .before .before .before .wrong .ensures) (c .before .before .before .before .before .if1 .left) in omega (arith, h, c .before .before .wide .ensures))
 
 returns-4 : tie.Need-returns-4
 returns-4 c =
     let a = c .before .before .before .before .before .before .before .before .before .before .before .before .before .before .before .args in
     let w = wanted (a .common) (a .master) (a .count) (a .time .now) (a .packets .now) (a .lengths .now) (a .size) in
     let l = lent (a .out .now) (a .frames .now) in
-    sent-50 w l (c .before .before .before .before .before .before .before .before .before .fields-wrong .ensures) (c .before .before .before .before .before .before .before .before .lengths-wrong .ensures) (c .before .before .before .before .before .before .before .if1 .left) (c .before .before .before .before .before .before .packets-wrong .ensures) (c .before .before .before .before .before .if2 .left)
+    sent-50 w l (c .before .before .before .before .before .before .before .before .before .fields-wrong .ensures) (c .before .before .before .before .before .before .before .before .wrong .ensures) (c .before .before .before .before .before .before .before .if1 .left) (c .before .before .before .before .before .before .packets-wrong .ensures) (c .before .before .before .before .before .if2 .left)
     (size-at (a .size) (c .before .before .before .before .wide .ensures) (c .before .before .before .if3 .left)) (c .before .before .full-frames .ensures)
     (short-at _ _ _ _ (c .before .before .before .before .wide .ensures) (c .before .room-wrong .ensures)) (c .if4 .taken)
 
@@ -70,7 +70,7 @@ lay-requires c κs =
     let a = c .before .before .before .before .before .before .before .before .before .before .before .before .before .before .before .before .before .args in
     let w = wanted (a .common) (a .master) (a .count) (a .time .now) (a .packets .now) (a .lengths .now) (a .size) in
     let l = lent (a .out .now) (a .frames .now) in
-    ready w l (c .before .before .before .before .before .before .before .before .before .before .before .fields-wrong .ensures) (c .before .before .before .before .before .before .before .before .before .before .lengths-wrong .ensures) (c .before .before .before .before .before .before .before .before .before .if1 .left) (c .before .before .before .before .before .before .before .before .packets-wrong .ensures) (c .before .before .before .before .before .before .before .if2 .left)
+    ready w l (c .before .before .before .before .before .before .before .before .before .before .before .fields-wrong .ensures) (c .before .before .before .before .before .before .before .before .before .before .wrong .ensures) (c .before .before .before .before .before .before .before .before .before .if1 .left) (c .before .before .before .before .before .before .before .before .packets-wrong .ensures) (c .before .before .before .before .before .before .before .if2 .left)
     (size-at (a .size) (c .before .before .before .before .before .before .wide .ensures) (c .before .before .before .before .before .if3 .left)) (c .before .before .before .before .full-frames .ensures)
     (short-at _ _ _ _ (c .before .before .before .before .before .before .wide .ensures) (c .before .before .before .room-wrong .ensures)) (c .before .before .if4 .left)
 
@@ -79,7 +79,7 @@ returns-5 c =
     let a = c .before .before .before .before .before .before .before .before .before .before .before .before .before .before .before .before .before .before .before .before .before .before .args in
     let w = wanted (a .common) (a .master) (a .count) (a .time .now) (a .packets .now) (a .lengths .now) (a .size) in
     let l = lent (a .out .now) (a .frames .now) in
-    sent-all w l (c .before .before .before .before .before .before .before .before .before .before .before .before .before .before .before .before .fields-wrong .ensures) (c .before .before .before .before .before .before .before .before .before .before .before .before .before .before .before .lengths-wrong .ensures) (c .before .before .before .before .before .before .before .before .before .before .before .before .before .before .if1 .left) (c .before .before .before .before .before .before .before .before .before .before .before .before .before .packets-wrong .ensures) (c .before .before .before .before .before .before .before .before .before .before .before .before .if2 .left)
+    sent-all w l (c .before .before .before .before .before .before .before .before .before .before .before .before .before .before .before .before .fields-wrong .ensures) (c .before .before .before .before .before .before .before .before .before .before .before .before .before .before .before .wrong .ensures) (c .before .before .before .before .before .before .before .before .before .before .before .before .before .before .if1 .left) (c .before .before .before .before .before .before .before .before .before .before .before .before .before .packets-wrong .ensures) (c .before .before .before .before .before .before .before .before .before .before .before .before .if2 .left)
     (size-at (a .size) (c .before .before .before .before .before .before .before .before .before .before .before .wide .ensures) (c .before .before .before .before .before .before .before .before .before .before .if3 .left)) (c .before .before .before .before .before .before .before .before .before .full-frames .ensures)
     (short-at _ _ _ _ (c .before .before .before .before .before .before .before .before .before .before .before .wide .ensures) (c .before .before .before .before .before .before .before .before .room-wrong .ensures)) (c .before .before .before .before .before .before .before .if4 .left) (c .before .before .before .before .lay .ensures)
 

@@ -8,12 +8,12 @@ use Rattle.feed.proofs.Feed.pull.Tie as tie
 
 add-from : tie.Need-add-from
 add-from c =
-    let a = c .before .before .before .before .before .before .before .before .before .before .before .before .before .before .before .before .before .before .before .before .args in
-    omega (arith, used-left (a .self) (now (a .input)) (a .receiver) (now (a .kept)) (c .before .before .before .before .before .before .before .before .before .before .before .before .hand .ensures) (c .before .before .before .before .before .before .before .next .ensures), c .before .before .before .before .before .before .before .before .before .before .before .before .before .before .before .before .before .before .before .before .good .0, c .before .before .before .before .before .before .before .before .before .before .before .before .before .before .before .before .before .before .before .before .good .1 .1 .1 .0)
+    let a = c .before .before .before .before .before .before .before .before .before .before .before .before .before .before .before .before .before .before .before .args in
+    omega (arith, used-left (a .self) (now (a .input)) (a .receiver) (now (a .kept)) (c .before .before .before .before .before .before .before .before .before .before .before .before .hand .ensures) (c .before .before .before .before .before .before .before .next .ensures), c .before .before .before .before .before .before .before .before .before .before .before .before .before .before .before .before .before .before .before .good .0, c .before .before .before .before .before .before .before .before .before .before .before .before .before .before .before .before .before .before .before .good .1 .1 .1 .0)
 
 returns : tie.Need-returns
 returns c =
-    let a = c .before .before .before .before .before .before .before .before .before .before .before .before .before .before .before .before .before .before .before .before .before .before .before .before .before .before .args in
+    let a = c .before .before .before .before .before .before .before .before .before .before .before .before .before .before .before .before .before .before .before .before .before .before .before .before .before .args in
     pulls (a .self) (now (a .input)) (a .receiver) (now (a .kept)) (c .before .before .before .before .before .before .before .before .before .before .before .before .before .before .before .before .before .before .hand .ensures) (c .before .before .before .before .before .before .before .before .before .before .before .before .before .next .ensures) (c .before .before .before .tell .ensures)
 
 pub pull-spec : {M : Type 1} → statement M

@@ -1,10 +1,11 @@
-use Rattle.sender.proofs.Refusals.{Left, left-first, left-next, left-short, left-end}
+-- `lengths::wrong` meets its contract.
 use Prim.Native.Nat.{_-_}
 use lib.ListN.{length}
 use native.Mathlib.Omega.{arith}
 use borrow.Author.Needs.{needs}
-use Rattle.sender.proofs.refusing.lengths_wrong.Statement.{statement}
-use Rattle.sender.proofs.refusing.lengths_wrong.Tie as tie
+use Rattle.lengths.proofs.Left.{Left, left-first, left-next, left-short, left-end}
+use Rattle.lengths.proofs.wrong.Statement.{statement}
+use Rattle.lengths.proofs.wrong.Tie as tie
 
 abbrev Inv-loop : tie.InvT-loop
 Inv-loop lengths n left₀ i₀ left i = Left lengths n left i
@@ -18,8 +19,8 @@ loop-holds c = left-first _ _
 cast-length : tie.Need-cast-length Inv-loop μ-loop
 cast-length c = omega (arith, c .shared-slice-known .given (c .before .before .loop .i))
 
-pub lengths-wrong-spec : {M : Type 1} → statement M
-lengths-wrong-spec =
+pub wrong-spec : {M : Type 1} → statement M
+wrong-spec =
     tie.close
     (tie.spec
     Inv-loop μ-loop loop-holds (λ c. search needs) (λ c. search needs) cast-length

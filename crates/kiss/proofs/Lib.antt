@@ -1,0 +1,12 @@
+pub mod Sealing
+pub mod Closing
+pub mod Scanning
+pub mod Finding
+pub mod Escapes
+pub mod Behind
+pub mod Telling
+pub mod Streaming
+pub mod Pieces
+pub mod Written
+pub mod Checks
+pub mod Unique

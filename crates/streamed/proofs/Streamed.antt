@@ -1,0 +1,40 @@
+-- What is listed of a stream is the lines of what it holds.
+use Prim.Native.Nat.{ℕ}
+use mathlib.Core.Path.{_≡_, refl, sym, ap, _∙_}
+use mathlib.Core.List.{List, [], _∷_, _++_, map, append-nil}
+use mathlib.Core.Bool.{Bool, true, false}
+use lib.ListN.{length}
+use Rattle.octets.specs.Pick.{pick}
+use Rattle.stretch.specs.Stretch.{Stretch, mostKept, clipped}
+use Rattle.kiss.specs.Stream.{stretchesIn}
+use Rattle.kiss.specs.Reader as kiss
+use Rattle.kiss.proofs.Streaming.{finds-stream}
+use Rattle.source.specs.Found.{Item, offers, ofStream}
+use Rattle.session.specs.Open.{opening}
+use Rattle.session.specs.Step.{Outcome}
+use Rattle.session.specs.declared.Session.{Session}
+use Rattle.receiver.specs.Run.{roomy}
+use Rattle.carried.proofs.Carried.{clipped-offer}
+use Rattle.lines.specs.Text.{header}
+use Rattle.listing.specs.Listing.{made, outcomeText, itemsText, listed}
+use Rattle.streamed.specs.Streamed.{ListsKiss}
+
+-- what a reader does not keep of a frame that is too long changes no line
+same-lines : (s : Session) (xs : List Stretch) → itemsText s (map offers (map clipped xs)) ≡ itemsText s (map offers xs)
+same-lines s [] = refl
+same-lines s (x ∷ xs) =
+    ap (λ (o : Outcome). outcomeText o ++ itemsText (o .session) (map offers (map clipped xs))) (clipped-offer s x roomy)
+    ∙ ap (λ (text : List ℕ). outcomeText (made s x) ++ text) (same-lines (made s x .session) xs)
+
+-- a stream is never bad
+no-last-line : (s : Session) (xs : List Stretch) (ended : Bool) → listed s (ofStream xs) ended ≡ itemsText s (map offers xs)
+unfolding listed pick
+no-last-line s xs true = append-nil (itemsText s (map offers xs))
+no-last-line s xs false = append-nil (itemsText s (map offers xs))
+
+pub lists-kiss : ListsKiss
+lists-kiss t kept octets ended h =
+    ap (λ (text : List ℕ). header ++ text)
+    (no-last-line (opening t 0 .session) (kiss.toFind (kiss.standing kiss.fresh kept) octets) ended
+    ∙ ap (λ (xs : List Stretch). itemsText (opening t 0 .session) (map offers xs)) (finds-stream kept octets h)
+    ∙ same-lines (opening t 0 .session) (stretchesIn octets))
