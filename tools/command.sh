@@ -6,6 +6,9 @@
 room='' children=''
 # The program, where it is another than the command's: set behind this file.
 program=$name
+# How lines begin that the program may say without an error, where there are such; where a command keeps what the program writes, so that it
+# can look at it, instead of passing it on: both set behind this file.
+harmless='' keeps=''
 
 # Says a line on standard error.
 say() { printf '%s: %s\n' "$name" "$*" >&2; }
@@ -91,10 +94,10 @@ build() {
     mv -f "$room/built" "$target/$program.built" 2>/dev/null || :
 }
 
-# Passes on at once what the program says on standard error, and remembers that it did.
+# Passes on at once what the program says on standard error, and remembers whether any of it was an error.
 heard() {
     while IFS= read -r line || [ -n "$line" ]; do
-        : >"$room/said"
+        [ -n "$harmless" ] && [ "${line#"$harmless"}" != "$line" ] || : >"$room/said"
         printf '%s\n' "$line" >&2
     done
 }
@@ -107,12 +110,14 @@ run() {
     [ ! -x "$tools/bin/qemu-x86_64" ] || set -- "$tools/bin/qemu-x86_64" -cpu max,-erms "$@"
     heard <"$room/lines" &
     children=$!
+    if [ -n "$keeps" ]; then exec 4>"$room/kept"; else exec 4>&1; fi
     if [ "$file" = - ]; then
         [ ! -t 3 ] || say "waiting for $what on standard input ($name --help tells more)"
-        "$@" 2>"$room/lines" <&3 &
+        "$@" >&4 2>"$room/lines" <&3 &
     else
-        "$@" 2>"$room/lines" <"$file" &
+        "$@" >&4 2>"$room/lines" <"$file" &
     fi
+    exec 4>&-
     children="$children $!"
     wait "$!" 2>/dev/null
     ended=$?

@@ -11,9 +11,9 @@ use borrow.Author.Tests.{lt-ltb, le-ltb}
 use Rattle.octets.specs.Pick.{pick}
 use Rattle.octets.specs.Parts.{overlay, put}
 use Rattle.octets.proofs.Placing.{put-fits}
-use Rattle.decimal.specs.Text.{longestNumber, decimal, spaced}
+use Rattle.decimal.specs.Text.{longestNumber, decimal, each}
 use Rattle.decimal.specs.Laid.{Laid, Puts}
-use Rattle.decimal.proofs.Short.{decimal-short, spaced-short}
+use Rattle.decimal.proofs.Short.{decimal-short, each-short}
 
 -- the same text, said otherwise
 pub resaid : {most more : ℕ} {text text′ out out′ : List ℕ} {at r : ℕ} → text ≡ text′ → most ≤ more → Laid most text out at out′ r → Laid more text′ out at out′ r
@@ -44,27 +44,27 @@ joined {a = a} {b} {out} {at = at} {r₁} h x y = record {
 }
 
 -- a text behind numbers
-spaced-then : (ns text : List ℕ) → spaced ns [] ++ text ≡ spaced ns text
-spaced-then [] text = refl
-spaced-then (n ∷ ns) text = append-assoc (decimal n) (32 ∷ spaced ns []) text ∙ ap (λ (t : List ℕ). decimal n ++ (32 ∷ t)) (spaced-then ns text)
+each-then : (after : ℕ) (ns text : List ℕ) → each after ns [] ++ text ≡ each after ns text
+each-then after [] text = refl
+each-then after (n ∷ ns) text = append-assoc (decimal n) (after ∷ each after ns []) text ∙ ap (λ (t : List ℕ). decimal n ++ (after ∷ t)) (each-then after ns text)
 
-pub behind-numbers : {m k : ℕ} {text out out₁ out₂ : List ℕ} {at r₁ r₂ : ℕ} (ns : List ℕ) → at ≤ length out → Laid m (spaced ns []) out at out₁ r₁ → Laid k text out₁ r₁ out₂ r₂
-    → Laid (m + k) (spaced ns text) out at out₂ r₂
-behind-numbers {text = text} ns h x y = resaid (spaced-then ns text) (omega arith) (joined h x y)
+pub behind-numbers : (after : ℕ) {m k : ℕ} {text out out₁ out₂ : List ℕ} {at r₁ r₂ : ℕ} (ns : List ℕ) → at ≤ length out → Laid m (each after ns []) out at out₁ r₁ → Laid k text out₁ r₁ out₂ r₂
+    → Laid (m + k) (each after ns text) out at out₂ r₂
+behind-numbers after {text = text} ns h x y = resaid (each-then after ns text) (omega arith) (joined h x y)
 
 -- no number, and one more
 pub no-number : (out : List ℕ) (at : ℕ) → Laid 0 [] out at out at
 no-number out at = record { leaves = paste-zero out at []; behind = sym (add-zero at); near = omega arith }
 
-spaced-last : (ns : List ℕ) (n : ℕ) → spaced ns (decimal n ++ (32 ∷ [])) ≡ spaced (ns ++ (n ∷ [])) []
-spaced-last [] n = refl
-spaced-last (m ∷ ns) n = ap (λ (t : List ℕ). decimal m ++ (32 ∷ t)) (spaced-last ns n)
+each-last : (after : ℕ) (ns : List ℕ) (n : ℕ) → each after ns (decimal n ++ (after ∷ [])) ≡ each after (ns ++ (n ∷ [])) []
+each-last after [] n = refl
+each-last after (m ∷ ns) n = ap (λ (t : List ℕ). decimal m ++ (after ∷ t)) (each-last after ns n)
 
-pub one-number-more : {out out₁ out₂ : List ℕ} {at r₁ r₂ : ℕ} (list : List ℕ) (i : ℕ) → i < length list → at ≤ length out → Laid (longestNumber * i) (spaced (take i list) []) out at out₁ r₁
-    → Laid longestNumber (decimal (getD list i 0) ++ (32 ∷ [])) out₁ r₁ out₂ r₂ → Laid (longestNumber * (i + 1)) (spaced (take (i + 1) list) []) out at out₂ r₂
-one-number-more list i inside h x y =
+pub one-number-more : (after : ℕ) {out out₁ out₂ : List ℕ} {at r₁ r₂ : ℕ} (list : List ℕ) (i : ℕ) → i < length list → at ≤ length out → Laid (longestNumber * i) (each after (take i list) []) out at out₁ r₁
+    → Laid longestNumber (decimal (getD list i 0) ++ (after ∷ [])) out₁ r₁ out₂ r₂ → Laid (longestNumber * (i + 1)) (each after (take (i + 1) list) []) out at out₂ r₂
+one-number-more after list i inside h x y =
     let e : take (i + 1) list ≡ take i list ++ (getD list i 0 ∷ []) = ap (λ (k : ℕ). take k list) (add-one i) ∙ take-suc list i 0 inside in
-    resaid (spaced-last (take i list) (getD list i 0) ∙ ap (λ (l : List ℕ). spaced l []) (sym e)) (omega arith) (behind-numbers (take i list) h x y)
+    resaid (each-last after (take i list) (getD list i 0) ∙ ap (λ (l : List ℕ). each after l []) (sym e)) (omega arith) (behind-numbers after (take i list) h x y)
 
 -- octets put where they have room
 pub put-laid : {text out out′ : List ℕ} {at : ℕ} → at + length text ≤ length out → out′ ≡ put out at text → Laid (length text) text out at out′ (at + length text)
@@ -92,9 +92,9 @@ module _ {out out′ : List ℕ} {at r : ℕ} where
       → Laid longestNumber (decimal n ++ (after ∷ [])) out at out′ r
   number-laid n after room p = laid-puts room (simp length-append (omega (arith, decimal-short n))) p
 
-  pub numbers-laid : (ns : List ℕ) → at + longestNumber * length ns ≤ length out → Puts (longestNumber * length ns) (spaced ns []) out at out′ r
-      → Laid (longestNumber * length ns) (spaced ns []) out at out′ r
-  numbers-laid ns room p = laid-puts room (omega (arith, spaced-short ns [])) p
+  pub numbers-laid : (after : ℕ) (ns : List ℕ) → at + longestNumber * length ns ≤ length out → Puts (longestNumber * length ns) (each after ns []) out at out′ r
+      → Laid (longestNumber * length ns) (each after ns []) out at out′ r
+  numbers-laid after ns room p = laid-puts room (omega (arith, each-short after ns [])) p
 
 -- what is put, and where it ends
 pub one-put : {most : ℕ} {text out : List ℕ} {at r q : ℕ} {out₁ out₂ : List ℕ} → Puts most text out at out₁ r → Puts most text out at out₂ q

@@ -6,7 +6,7 @@ use native.Mathlib.Omega.{arith}
 use lib.Dec.{ltb}
 use lib.ListN.{length, length-append}
 use Rattle.octets.specs.Pick.{pick}
-use Rattle.decimal.specs.Text.{decimalBelow, decimal, spaced}
+use Rattle.decimal.specs.Text.{decimalBelow, decimal, each}
 
 pub either-short : {most : ℕ} (b : Bool) (x y : List ℕ) → length x ≤ most → length y ≤ most → length (pick b x y) ≤ most
 unfolding pick
@@ -22,6 +22,6 @@ unfolding decimal
 decimal-short n = below-short 10 n
 
 -- numbers and a text behind them
-pub spaced-short : (ns text : List ℕ) → length (spaced ns text) ≤ 11 * length ns + length text
-spaced-short [] text = omega arith
-spaced-short (n ∷ ns) text = simp length-append (omega (arith, decimal-short n, spaced-short ns text))
+pub each-short : (after : ℕ) (ns text : List ℕ) → length (each after ns text) ≤ 11 * length ns + length text
+each-short after [] text = omega arith
+each-short after (n ∷ ns) text = simp length-append (omega (arith, decimal-short n, each-short after ns text))

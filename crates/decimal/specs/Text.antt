@@ -27,7 +27,7 @@ DecimalShows = (n : ℕ) → n < 10 ^ 10 → valueAfter 0 (decimal n) ≡ n
 abbrev pub longestNumber : ℕ
 longestNumber = 11
 
--- Numbers, each with a space behind it, then a text.
-abbrev pub spaced : List ℕ → List ℕ → List ℕ
-spaced [] text = text
-spaced (n ∷ numbers) text = decimal n ++ (32 ∷ spaced numbers text)
+-- Numbers, each with the octet `after` behind it, then a text.
+abbrev pub each : ℕ → List ℕ → List ℕ → List ℕ
+each after [] text = text
+each after (n ∷ numbers) text = decimal n ++ (after ∷ each after numbers text)

@@ -1,14 +1,24 @@
-// Numbers as decimal text, put into lent octets.
+// Numbers as decimal text, put into lent octets and read from them.
 ghost use mathlib.Core.Path.{_≡_};
 ghost use mathlib.Core.List.{[], _∷_, _++_};
 ghost use Prim.Native.Nat.{_+_, _*_, _≤_};
 ghost use lib.ListN.{length};
 ghost use Rattle.octets.specs.Parts.{overlay};
-ghost use Rattle.decimal.specs.Text.{longestNumber, decimal, spaced};
+ghost use Rattle.decimal.specs.Text.{longestNumber, decimal, each};
 ghost use Rattle.decimal.specs.Laid.{Laid, Puts};
+ghost use Rattle.decimal.specs.Read.{readAt};
 
 // The most octets that a number takes with the character behind it.
 pub const NUMBER: usize = 11;
+
+// The largest number that is read.
+pub const LARGEST: u64 = 4294967295;
+
+// What reading a number answers: the number and the index behind the octet that ends it, or that none is written there.
+pub enum NumberRead {
+    Read(u32, usize),
+    Wrong,
+}
 
 // Puts n's decimal digits and the character after them into out from index at on, and answers the index behind them.
 // With less than NUMBER octets there out stays, and the answer is at.
@@ -24,10 +34,10 @@ pub fn number(out: &mut [u8], at: usize, n: u32, after: u8) -> usize
     lay(out, at, n, after)
 }
 
-// Puts each number of a list and a space behind it into out from index at on, and answers the index behind them.
+// Puts each number of a list and the octet after behind it into out from index at on, and answers the index behind them.
 // With less than NUMBER octets for each out stays, and the answer is at.
-pub fn numbers(out: &mut [u8], at: usize, list: &[u32]) -> usize
-    ensures { λ r. ⌜ Puts (longestNumber * length (now (list .entry))) (spaced (now (list .entry)) []) (now (out .entry)) at (now (out .exit)) r ⌝ }
+pub fn numbers(out: &mut [u8], at: usize, list: &[u32], after: u8) -> usize
+    ensures { λ r. ⌜ Puts (longestNumber * length (now (list .entry))) (each after (now (list .entry)) []) (now (out .entry)) at (now (out .exit)) r ⌝ }
 {
     if out.len() < at {
         return at;
@@ -38,10 +48,35 @@ pub fn numbers(out: &mut [u8], at: usize, list: &[u32]) -> usize
     let mut next = at;
     let mut i = 0;
     while i < list.len() {
-        next = lay(out, next, list[i], b' ');
+        next = lay(out, next, list[i], after);
         i += 1;
     }
     next
+}
+
+// Reads the number that stands at index at of text and is ended by the octet after.
+// Wrong if there is no digit, a leading zero, a number above LARGEST, or another octet behind the digits.
+pub fn read(text: &[u8], at: usize, after: u8) -> NumberRead
+    ensures { λ r. ⌜ r ≡ readAt (now (text .entry)) at after ⌝ }
+{
+    let mut n: u64 = 0;
+    let mut end = at;
+    while end < text.len() {
+        let c = text[end];
+        if (c < b'0') | (b'9' < c) {
+            let digits = end - at;
+            if (digits == 0) | ((text[at] == b'0') & (1 < digits)) | (c != after) {
+                return NumberRead::Wrong;
+            }
+            return NumberRead::Read(n as u32, end + 1);
+        }
+        n = n * 10 + (c - b'0') as u64;
+        if LARGEST < n {
+            return NumberRead::Wrong;
+        }
+        end += 1;
+    }
+    NumberRead::Wrong
 }
 
 // The same as `number`, where there is room.

@@ -10,7 +10,7 @@ use borrow.Author.Tests.{lt-ltb, le-ltb, ltb-true, ltb-false}
 use Rattle.octets.specs.Pick.{pick}
 use Rattle.octets.specs.Parts.{put}
 use Rattle.answer.specs.declared.Refusal.{Refusal}
-use Rattle.decimal.specs.Text.{longestNumber, decimal, spaced}
+use Rattle.decimal.specs.Text.{longestNumber, decimal, each}
 use Rattle.decimal.specs.Laid.{Laid, Puts}
 use Rattle.decimal.proofs.Laid.{resaid, joined, behind-numbers, put-laid, puts-none, puts-laid, laid-puts, number-laid, numbers-laid}
 use Rattle.decimal.proofs.Short.{decimal-short}
@@ -28,19 +28,19 @@ use Rattle.lines.specs.Text.{longestLine, shown, acceptedLine, refusedLi
 
 -- numbers, and a last one
 pub numbers-then : {out out₁ out₂ : List ℕ} {at r₁ r₂ : ℕ} (ns : List ℕ) (n after : ℕ) → at + longestNumber * length ns + longestNumber ≤ length out → length out₁ ≡ length out
-    → Puts (longestNumber * length ns) (spaced ns []) out at out₁ r₁ → Puts longestNumber (decimal n ++ (after ∷ [])) out₁ r₁ out₂ r₂
-    → Laid (longestNumber * length ns + longestNumber) (spaced ns (decimal n ++ (after ∷ []))) out at out₂ r₂
+    → Puts (longestNumber * length ns) (each 32 ns []) out at out₁ r₁ → Puts longestNumber (decimal n ++ (after ∷ [])) out₁ r₁ out₂ r₂
+    → Laid (longestNumber * length ns + longestNumber) (each 32 ns (decimal n ++ (after ∷ []))) out at out₂ r₂
 numbers-then ns n after room same x y =
-    let l = numbers-laid ns (omega arith) x in
-    behind-numbers ns (omega arith) l (number-laid n after (omega (arith, l .near)) y)
+    let l = numbers-laid 32 ns (omega arith) x in
+    behind-numbers 32 ns (omega arith) l (number-laid n after (omega (arith, l .near)) y)
 
 -- numbers, and a text behind them
 pub numbers-text : {out out₁ out₂ : List ℕ} {at r₁ : ℕ} (ns text : List ℕ) → at + longestNumber * length ns + length text ≤ length out → length out₁ ≡ length out
-    → Puts (longestNumber * length ns) (spaced ns []) out at out₁ r₁ → out₂ ≡ put out₁ r₁ text
-    → Laid (longestNumber * length ns + length text) (spaced ns text) out at out₂ (r₁ + length text)
+    → Puts (longestNumber * length ns) (each 32 ns []) out at out₁ r₁ → out₂ ≡ put out₁ r₁ text
+    → Laid (longestNumber * length ns + length text) (each 32 ns text) out at out₂ (r₁ + length text)
 numbers-text ns text room same x e =
-    let l = numbers-laid ns (omega arith) x in
-    behind-numbers ns (omega arith) l (put-laid (omega (arith, l .near)) e)
+    let l = numbers-laid 32 ns (omega arith) x in
+    behind-numbers 32 ns (omega arith) l (put-laid (omega (arith, l .near)) e)
 
 -- a question mark, where a number would have no room, and where it would
 pub no-mark : {out : List ℕ} {at : ℕ} → length out < at + longestNumber → Puts longestNumber (63 ∷ 32 ∷ []) out at out at
@@ -67,17 +67,17 @@ three a b c h g x y z = resaid (simp append-assoc) (omega arith) (joined h x (jo
 
 -- numbers, two losses, and a last number
 pub losses-then : {out out₁ out₂ out₃ out₄ : List ℕ} {at r₁ r₂ r₃ r₄ : ℕ} (ns : List ℕ) (lost master : Loss) (n : ℕ)
-    → Puts (longestNumber * length ns) (spaced ns []) out at out₁ r₁ → Puts longestNumber (shown lost ++ (32 ∷ [])) out₁ r₁ out₂ r₂
+    → Puts (longestNumber * length ns) (each 32 ns []) out at out₁ r₁ → Puts longestNumber (shown lost ++ (32 ∷ [])) out₁ r₁ out₂ r₂
     → Puts longestNumber (shown master ++ (32 ∷ [])) out₂ r₂ out₃ r₃ → Puts longestNumber (decimal n ++ (10 ∷ [])) out₃ r₃ out₄ r₄
     → at + longestNumber * length ns + 3 * longestNumber ≤ length out → length out₁ ≡ length out → length out₂ ≡ length out₁ → length out₃ ≡ length out₂
-    → Laid (longestNumber * length ns + 3 * longestNumber) (spaced ns (shown lost ++ (32 ∷ (shown master ++ (32 ∷ (decimal n ++ (10 ∷ []))))))) out at out₄ r₄
+    → Laid (longestNumber * length ns + 3 * longestNumber) (each 32 ns (shown lost ++ (32 ∷ (shown master ++ (32 ∷ (decimal n ++ (10 ∷ []))))))) out at out₄ r₄
 losses-then ns lost master n x y z w room e₁ e₂ e₃ =
-    let l = numbers-laid ns (omega arith) x in
+    let l = numbers-laid 32 ns (omega arith) x in
     let a = laid-puts (omega (arith, l .near)) (shown-short lost) y in
     let b = laid-puts (omega (arith, l .near, a .near)) (shown-short master) z in
     let d = number-laid n 10 (omega (arith, l .near, a .near, b .near)) w in
     resaid refl (omega arith)
-    (behind-numbers ns (omega arith) l (three (shown lost) (shown master) (decimal n ++ (10 ∷ [])) (omega (arith, l .near)) (omega (arith, l .near, a .near)) a b d))
+    (behind-numbers 32 ns (omega arith) l (three (shown lost) (shown master) (decimal n ++ (10 ∷ [])) (omega (arith, l .near)) (omega (arith, l .near, a .near)) a b d))
 
 -- whether a line has no room
 pub lacks-room : (out : List ℕ) (at : ℕ) → length out < at + longestLine → true ≡ ltb (length out) (at + longestLine)

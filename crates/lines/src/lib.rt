@@ -4,7 +4,7 @@ ghost use mathlib.Core.List.{[], _∷_, _++_};
 ghost use Prim.Native.Nat.{_+_, _≤_};
 ghost use lib.ListN.{length};
 ghost use lib.Dec.{ltb};
-ghost use Rattle.decimal.specs.Text.{longestNumber, decimal, spaced};
+ghost use Rattle.decimal.specs.Text.{longestNumber, decimal, each};
 ghost use Rattle.decimal.specs.Laid.{Laid, Puts};
 ghost use Rattle.packet.specs.Packet.{told as toldPacket};
 ghost use Rattle.session.specs.Step.{told as toldStep};
@@ -117,7 +117,7 @@ fn accepted(out: &mut [u8], at: usize, arrival: u32, a: Accepted) -> usize
     ensures { λ r. ⌜ Laid longestLine (acceptedLine arrival a) (now (out .entry)) at (now (out .exit)) r ⌝ }
 {
     let list = [arrival, 0, a.channel as u32];
-    let next = decimal::numbers(out, at, &list);
+    let next = decimal::numbers(out, at, &list, b' ');
     let lost = a.lost;
     let master = a.master;
     let after = loss(out, next, lost);
@@ -131,7 +131,7 @@ fn refused(out: &mut [u8], at: usize, arrival: u32, refusal: u16) -> usize
     ensures { λ r. ⌜ Laid longestLine (refusedLine arrival refusal) (now (out .entry)) at (now (out .exit)) r ⌝ }
 {
     let list = [arrival, refusal as u32];
-    let next = decimal::numbers(out, at, &list);
+    let next = decimal::numbers(out, at, &list, b' ');
     octets::put(out, next, b"- - - -\n");
     next + 8
 }
@@ -173,10 +173,10 @@ fn turned_away(
 fn lettered(out: &mut [u8], at: usize, x: u8, list: &[u32], size: u16) -> usize
     requires { ⌜ at + longestLine ≤ length (now out) ⌝ }
     requires { ⌜ length (now list) ≤ 6 ⌝ }
-    ensures { λ r. ⌜ Laid longestLine (x ∷ 32 ∷ spaced (now (list .entry)) (decimal size ++ (10 ∷ []))) (now (out .entry)) at (now (out .exit)) r ⌝ }
+    ensures { λ r. ⌜ Laid longestLine (x ∷ 32 ∷ each 32 (now (list .entry)) (decimal size ++ (10 ∷ []))) (now (out .entry)) at (now (out .exit)) r ⌝ }
 {
     let first = at + 2;
     octets::put(out, at, &[x, b' ']);
-    let next = decimal::numbers(out, first, list);
+    let next = decimal::numbers(out, first, list, b' ');
     decimal::number(out, next, size as u32, b'\n')
 }

@@ -37,6 +37,10 @@ pub const SESSION_STEP: u8 = 18;
 
 pub const DAMAGE: u8 = 19;
 
-pub const KISS_IMPORT: u8 = 20;
+pub const PICTURE_READER: u8 = 20;
 
-pub const KISS_EXPORT: u8 = 21;
+pub const PICTURE_WRITER: u8 = 21;
+
+pub const KISS_IMPORT: u8 = 22;
+
+pub const KISS_EXPORT: u8 = 23;

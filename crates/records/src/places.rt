@@ -109,4 +109,10 @@ pub const FRAME: u8 = 12;
 
 pub const BITS: u8 = 13;
 
+pub const TEXT: u8 = 11;
+
+pub const LIST: u8 = 11;
+
+pub const ROOM: u8 = 13;
+
 pub const PIECE: u8 = 11;

@@ -29,6 +29,8 @@ fn format(c: &[u8], octets: &mut [u8], words: &mut [u16], fours: &mut [u32]) {
         kinds::HOUSEKEEPING_READER => reading_cases::read(c, octets, words, fours),
         kinds::HOUSEKEEPING_WRITER => reading_cases::write(c, octets),
         kinds::DAMAGE => damage_cases::read(c, octets),
+        kinds::PICTURE_READER => picture_cases::read(c, octets, fours),
+        kinds::PICTURE_WRITER => picture_cases::write(c, octets, fours),
         kinds::KISS_IMPORT => kiss_cases::import(c),
         kinds::KISS_EXPORT => kiss_cases::export(c, octets),
         _ => text::say(b"no such kind"),

@@ -4,7 +4,7 @@ use mathlib.Core.Path.{_≡_, refl, ap, _∙_}
 use mathlib.Core.List.{List, []}
 use lib.ListN.{length, take}
 use lib.Seq.{take-all}
-use Rattle.decimal.specs.Text.{longestNumber, spaced}
+use Rattle.decimal.specs.Text.{longestNumber, each}
 use Rattle.decimal.specs.Laid.{Laid}
 use Rattle.decimal.proofs.Laid.{resaid, no-number, one-number-more, puts-none, puts-laid}
 use native.Mathlib.Omega.{arith}
@@ -13,10 +13,10 @@ use Rattle.decimal.proofs.numbers.Statement.{statement}
 use Rattle.decimal.proofs.numbers.Tie as tie
 
 abbrev Inv-loop : tie.InvT-loop
-Inv-loop out₀ at list next₀ i₀ out next i = (at + longestNumber * length list ≤ length out₀) × (i ≤ length list) × (length out ≡ length out₀) × Laid (longestNumber * i) (spaced (take i list) []) out₀ at out next
+Inv-loop out₀ at list after next₀ i₀ out next i = (at + longestNumber * length list ≤ length out₀) × (i ≤ length list) × (length out ≡ length out₀) × Laid (longestNumber * i) (each after (take i list) []) out₀ at out next
 
 abbrev μ-loop : tie.MeasureT-loop
-μ-loop out₀ at list next₀ i₀ out next i = length list - i
+μ-loop out₀ at list after next₀ i₀ out next i = length list - i
 
 returns : tie.Need-returns Inv-loop μ-loop
 returns c = puts-none (omega arith)
@@ -37,12 +37,13 @@ loop-again : tie.Need-loop-again Inv-loop μ-loop
 loop-again c =
     let n = c .before .before .lay in
     let l = c .before .before .before .before .before .before .loop in
-    (l .inv .0, search needs, n .kept .0 ∙ l .inv .2, one-number-more _ (l .i) (search needs) (search needs) (l .inv .3) (n .ensures))
+    (l .inv .0, search needs, n .kept .0 ∙ l .inv .2, one-number-more _ _ (l .i) (search needs) (search needs) (l .inv .3) (n .ensures))
 
 returns-3 : tie.Need-returns-3 Inv-loop μ-loop
 returns-3 c =
     let l = c .before .loop in
-    puts-laid (l .inv .0) (resaid (ap (λ (ns : List ℕ). spaced ns []) (take-all (l .i) _ (c .loop-test .left))) (omega (arith, l .inv .1)) (l .inv .3))
+    let a = c .before .before .before .before .before .before .args in
+    puts-laid (l .inv .0) (resaid (ap (λ (ns : List ℕ). each (a .after) ns []) (take-all (l .i) _ (c .loop-test .left))) (omega (arith, l .inv .1)) (l .inv .3))
 
 pub numbers-spec : {M : Type 1} → statement M
 numbers-spec =

@@ -10,7 +10,7 @@ use Rattle.lines.proofs.refused.Statement.{statement}
 use Rattle.lines.proofs.refused.Tie as tie
 
 add-result : tie.Need-add-result
-add-result c = omega (arith, c .before .before .before .before .before .before .before .before .before .before .before .pre, numbers-laid (c .before .before .before .before .before .before .before .before .before .before .before .args .arrival ∷ c .before .before .before .before .before .before .before .before .before .before .before .args .refusal ∷ []) (omega (arith, c .before .before .before .before .before .before .before .before .before .before .before .pre)) (c .before .before .before .before .before .before .before .numbers .ensures) .near)
+add-result c = omega (arith, c .before .before .before .before .before .before .before .before .before .before .before .pre, numbers-laid 32 (c .before .before .before .before .before .before .before .before .before .before .before .args .arrival ∷ c .before .before .before .before .before .before .before .before .before .before .before .args .refusal ∷ []) (omega (arith, c .before .before .before .before .before .before .before .before .before .before .before .pre)) (c .before .before .before .before .before .before .before .numbers .ensures) .near)
 
 returns : tie.Need-returns
 unfolding refusedLine
