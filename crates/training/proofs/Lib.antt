@@ -1,0 +1,10 @@
+pub mod Columns
+pub mod Values
+pub mod Forming
+pub mod Reasons
+pub mod Looking
+pub mod Keeping
+pub mod Telling
+pub mod Verdicts
+pub mod Rights
+pub mod Unique

@@ -1,0 +1,5 @@
+pub mod Table
+pub mod Statements
+pub mod Form
+pub mod Look
+pub mod Calls
