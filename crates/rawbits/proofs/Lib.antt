@@ -1,0 +1,11 @@
+pub mod Steps
+pub mod Turning
+pub mod Scanning
+pub mod Pieces
+pub mod Destuffing
+pub mod Holding
+pub mod Folding
+pub mod Finding
+pub mod Unique
+pub mod Calm
+pub mod Eights

@@ -1,0 +1,4 @@
+pub mod Recording
+pub mod Reader
+pub mod Eight
+pub mod Finding
