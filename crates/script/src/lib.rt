@@ -1,13 +1,9 @@
 // A script of the test bench, made into a recording: settings, packets, and steps that the sender makes frames of, a line each.
 //
-// What the frames are is sender's. Here are the lines, and the recording's octets.
+// What the frames are is sender's. Here are the lines.
 ghost use Prim.Native.Nat.{_≤_};
 ghost use lib.ListN.{length};
 use libc::STDERR_FILENO;
-use libc::STDOUT_FILENO;
-
-mod steps;
-
 use script_settings::Fault;
 use script_settings::State;
 
@@ -36,55 +32,6 @@ fn say(name: &[u8], number: u64, fault: Fault) {
         Fault::Nothing => io::write_all(STDERR_FILENO, b"\n"),
     }
     ;
-}
-
-// How many of the frames arrive.
-fn arriving(frames: &[u16]) -> u32 {
-    let mut n: u32 = 0;
-    let mut i = 0;
-    while i < frames.len() {
-        if frames[i] < steps::LOST {
-            n = std::num::wrapping_add_u32(n, 1);
-        }
-        i += 1;
-    }
-    n
-}
-
-// Writes one frame behind its length, and answers whether it could.
-fn write_one(octets: &[u8], n: u16) -> bool {
-    let length = octets::word_octets(n);
-    io::write_all(STDOUT_FILENO, &length) && io::write_all(STDOUT_FILENO, octets)
-}
-
-// Writes the frames that arrive, and answers whether it could.
-fn write_frames(made: &[u8], frames: &[u16]) -> bool {
-    let mut at: usize = 0;
-    let mut i = 0;
-    while i < frames.len() {
-        let n = frames[i] % steps::LOST;
-        let size = n as usize;
-        if frames[i] < steps::LOST {
-            if !write_one(octets::part(made, at, size), n) {
-                return false;
-            }
-        }
-        at = std::num::wrapping_add_usize(at, size);
-        i += 1;
-    }
-    true
-}
-
-// Writes the recording: the settings, the count of frames, the frames.
-fn record(name: &[u8], t: u8, made: &[u8], frames: &[u16]) {
-    let settings = [0, 0, 0, 1, t];
-    let count = octets::four_octets(arriving(frames));
-    if !(io::write_all(STDOUT_FILENO, &settings)
-        && io::write_all(STDOUT_FILENO, &count)
-        && write_frames(made, frames)) {
-        io::write_all(STDERR_FILENO, name);
-        os::fail(b": standard output");
-    }
 }
 
 // Where a script stands: its state, where the link's signs that are not used yet start, how many there are, and a fault.
@@ -116,12 +63,12 @@ fn turn(
         return next;
     }
     let state = before.state;
-    let stepped = steps::step(state, line, stamp, packets, lengths, made, frames);
+    let stepped = script_steps::step(state, line, stamp, packets, lengths, made, frames);
     let after = stepped.state;
     let fault = stepped.fault;
     let link = before.link;
     let signs = before.signs;
-    steps::lose(
+    script_recording::lose(
         octets::part(script, link, signs),
         frames,
         state.frames,
@@ -190,7 +137,7 @@ fn lines(
         at = end + 1;
     }
     let last = now.state;
-    record(name, last.t, made, steps::front(frames, last.frames));
+    script_recording::record(name, last.t, made, script_steps::front(frames, last.frames));
 }
 
 // Makes the recording of the script that comes by the descriptor source, on standard output. What fails is told on standard error,

@@ -1,8 +1,8 @@
 use Prim.Native.Nat.{_-_}
 use lib.ListN.{length}
 use borrow.Author.Needs.{needs}
-use Rattle.script.proofs.arriving.Statement.{statement}
-use Rattle.script.proofs.arriving.Tie as tie
+use Rattle.script_recording.proofs.arriving.Statement.{statement}
+use Rattle.script_recording.proofs.arriving.Tie as tie
 
 abbrev Inv-loop : tie.InvT-loop
 Inv-loop frames n₀ i₀ n i = Unit {0}

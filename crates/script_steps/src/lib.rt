@@ -1,13 +1,10 @@
-// The lines of a script, each a step.
+// The lines of a script, each a step: what it sets, the packets that wait, the frames that it makes.
 use counts::ChannelCount;
 use counts::MasterCount;
 use script_settings::Fault;
 use script_settings::State;
 use script_settings::Stepped;
 use sender::SendAnswer;
-
-// Added to the length of a frame that the link loses.
-pub(crate) const LOST: u16 = 32768;
 
 // The longest frame that a recording can hold.
 const LONGEST: usize = 1024;
@@ -41,7 +38,7 @@ fn packet(state: State, value: &[u8], packets: &mut [u8], lengths: &mut [u16]) -
 }
 
 // The first n of a list; all if there are fewer.
-pub(crate) fn front(list: &[u16], n: usize) -> &[u16] {
+pub fn front(list: &[u16], n: usize) -> &[u16] {
     if list.len() < n {
         return list;
     }
@@ -155,7 +152,7 @@ fn make(
 
 // The step that a line is, with the time's octets, the packets that wait and the frames made. Nothing is done of an empty line and of
 // one that starts with #.
-pub(crate) fn step(
+pub fn step(
     state: State,
     line: &[u8],
     stamp: &mut [u8],
@@ -183,32 +180,4 @@ pub(crate) fn step(
         &mut made[from..],
         frames,
     )
-}
-
-// Whether the link's sign says that a frame is lost; beyond the last sign all arrive.
-fn lost(link: &[u8], i: usize) -> bool {
-    if i < link.len() {
-        return link[i] == b'-';
-    }
-    false
-}
-
-// Marks a frame if it is lost.
-fn mark(frames: &mut [u16], i: usize, lost: bool) {
-    if lost {
-        if i < frames.len() {
-            frames[i] = std::num::wrapping_add_u16(frames[i], LOST);
-        }
-    }
-}
-
-// Marks those of the frames from one number up to another that the link loses, by a sign for each.
-pub(crate) fn lose(link: &[u8], frames: &mut [u16], from: usize, to: usize) {
-    let mut used: usize = 0;
-    let mut i = from;
-    while i < to {
-        mark(frames, i, lost(link, used));
-        used = std::num::wrapping_add_usize(used, 1);
-        i += 1;
-    }
 }

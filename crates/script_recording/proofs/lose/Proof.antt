@@ -2,8 +2,8 @@ use Prim.Native.Nat.{_-_}
 use mathlib.Core.Path.{_≡_}
 use lib.ListN.{length}
 use borrow.Author.Needs.{needs}
-use Rattle.script.proofs.steps.lose.Statement.{statement}
-use Rattle.script.proofs.steps.lose.Tie as tie
+use Rattle.script_recording.proofs.lose.Statement.{statement}
+use Rattle.script_recording.proofs.lose.Tie as tie
 
 abbrev Inv-loop : tie.InvT-loop
 Inv-loop link frames₀ from to used₀ i₀ frames used i = length frames ≡ length frames₀

@@ -1,8 +1,8 @@
 use Prim.Native.Nat.{_-_}
 use lib.ListN.{length}
 use borrow.Author.Needs.{needs}
-use Rattle.script.proofs.write_frames.Statement.{statement}
-use Rattle.script.proofs.write_frames.Tie as tie
+use Rattle.script_recording.proofs.write_frames.Statement.{statement}
+use Rattle.script_recording.proofs.write_frames.Tie as tie
 
 abbrev Inv-loop : tie.InvT-loop
 Inv-loop made frames at₀ i₀ at i = Unit {0}
