@@ -212,7 +212,7 @@ impl Session {
         } else if self.arrival == Session::LAST {
             answer = StepAnswer::Refused(Refusal::plain(answer::ARRIVALS));
         } else {
-            self.arrival += 1;
+            self.arrival = self.arrival + 1;
             answer = StepAnswer::Refused(Refusal::plain(own));
         }
         Stepped {
