@@ -1,11 +1,11 @@
 /* The job of crates/decode in plain C: a recording on standard input, its listing on standard output.
  * Written from documents 01 and 02 alone; no header is needed, so that the kit's own clang builds it anywhere.
  * PACKET_BITS says how many bits the packet check takes at once: 4, by sixteen words, or 8, by 256. SOURCE says what comes in:
- * a recording, or KISS, with t as the program's word. */
+ * a recording, or KISS or raw bits, with t as the program's word. */
 #ifndef PACKET_BITS
 #define PACKET_BITS 4
 #endif
-enum { RECORDING, KISS };
+enum { RECORDING, KISS, BITS };
 #ifndef SOURCE
 #define SOURCE RECORDING
 #endif
@@ -440,6 +440,96 @@ static void kiss_listed(size_t t)
     }
 }
 
+/* ---- Raw bits */
+
+/* Of an octet: how many 1s its bits begin with, 8 if five stand in a row among them, how many they end with, and its bits turned round. */
+struct eight {
+    u8 lead, trail, turned;
+};
+static struct eight eights[256];
+
+static void make_eights(void)
+{
+    for (u32 x = 0; x < 256; x++) {
+        struct eight e = { 0, 0, 0 };
+        u32 run = 0, five = 0;
+        for (u32 i = 0; i < 8; i++) {
+            u32 bit = x >> (7 - i) & 1;
+            run = bit ? run + 1 : 0;
+            five |= run == 5;
+            if (run == i + 1)
+                e.lead = (u8)run;
+            e.turned |= (u8)(bit << i);
+        }
+        e.trail = (u8)run;
+        if (five)
+            e.lead = 8;
+        eights[x] = e;
+    }
+}
+
+static void bits_stretch(u32 lost, u32 odd, u32 n, size_t t)
+{
+    if (lost)
+        answered(++arrivals, 17);
+    else if (odd)
+        answered(++arrivals, 16);
+    else if (n)
+        frame_lines(++arrivals, begun, n, t);
+}
+
+/* `ones` 1s came last, 7 where no flag can end behind them; `odd` bits of an octet had begun before the last 0. */
+static void bits_listed(size_t t)
+{
+    u32 seen = 0, ones = 0, lost = 0, odd = 0, last = 0, bits = 0, n = 0;
+    make_eights();
+    while (have(1)) {
+        for (; in_at < in_end; in_at++) {
+            u32 x = *in_at;
+            struct eight e = eights[x];
+            if (ones + e.lead < 5) {
+                if (n <= FRAME_MOST)
+                    begun[n++] = (u8)(((u32)e.turned << 8 | last) >> (8 - bits));
+                last = e.turned;
+                ones = e.trail;
+                odd = (bits + 7 - e.trail) & 7;
+                continue;
+            }
+            for (u32 i = 0; i < 8; i++) {
+                u32 bit = x >> (7 - i) & 1;
+                if (bit) {
+                    ones++;
+                    if (ones == 6 && bits == 5 && !n)
+                        ones = 7;
+                    if (ones >= 7) {
+                        ones = 7;
+                        lost = 1;
+                    }
+                } else if (ones == 6) {
+                    if (seen)
+                        bits_stretch(lost, odd, n, t);
+                    seen = 1;
+                    ones = lost = odd = last = bits = n = 0;
+                    continue;
+                } else {
+                    u32 stuffed = ones == 5;
+                    ones = 0;
+                    odd = bits;
+                    if (stuffed)
+                        continue;
+                }
+                last = last >> 1 | bit << 7;
+                if (++bits == 8) {
+                    bits = 0;
+                    if (n <= FRAME_MOST)
+                        begun[n++] = (u8)last;
+                }
+            }
+        }
+        flush();
+    }
+}
+
 int main(int words, char **word)
 {
     make_tables();
@@ -449,7 +539,7 @@ int main(int words, char **word)
             text("bad recording\n", 14);
     } else if (words == 2) {
         header();
-        kiss_listed((size_t)(word[1][0] - '0'));
+        (SOURCE == KISS ? kiss_listed : bits_listed)((size_t)(word[1][0] - '0'));
     }
     flush();
     return 0;

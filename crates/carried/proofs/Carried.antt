@@ -1,5 +1,5 @@
 -- Demand 3 for frames that arrive by a stream.
-use Prim.Native.Nat.{ℕ, _+_, _≤_, _<_}
+use Prim.Native.Nat.{ℕ, _≤_, _<_}
 use mathlib.Core.Path.{_≡_, refl, sym, ap, ap₂, _∙_}
 use mathlib.Core.Bool.{Bool, true, false}
 use mathlib.Core.List.{List, [], _∷_, map}
@@ -8,28 +8,27 @@ use lib.ListN.{length, take, length-take}
 use lib.Seq.{take-all}
 use lib.Dec.{ltb}
 use borrow.Author.Tests.{ltb-true, ltb-false}
-use Rattle.octets.specs.Pick.{pick}
 use Rattle.octets.proofs.Choices.{picks}
 use Rattle.octets.proofs.Choices as choices
-use Rattle.answer.specs.Told.{Told, refuse}
+use Rattle.answer.specs.Told.{Told}
 use Rattle.answer.specs.Refusals as no
-use Rattle.frame.specs.Limits.{longestTime, greatestLength}
-use Rattle.frame.specs.Frame.{noFrame, dataOf, readFrame}
+use Rattle.frame.specs.Limits.{leastLength, greatestLength}
+use Rattle.frame.specs.Frame.{readFrame}
+use Rattle.frame.specs.Write.{fieldsWrong}
 use Rattle.frame.specs.declared.Frame.{Frame}
 use Rattle.frame.proofs.ReadsBack.{reads-back}
 use Rattle.frame.proofs.Accepts.{accepts}
 use Rattle.stretch.specs.Stretch.{Stretch, found, unread, clipped, mostKept}
 use Rattle.kiss.proofs.Checks.{too-long, clipped-alike}
 use Rattle.session.specs.Lent.{Lent}
-use Rattle.session.specs.Step.{Outcome, counted, accepted, refusedAt, heeded, barred, admitted, outcome}
+use Rattle.session.specs.Step.{counted, accepted, refusedAt, admitted, outcome}
 use Rattle.session.specs.Statements.{offered}
 use Rattle.session.specs.declared.Session.{Session}
-use Rattle.sender.specs.Sender.{Framed, sentOctets, AllWellFormed, Sender}
-use Rattle.delivery.specs.Link.{Passing, arrives, loses, noise, passed, arriving}
+use Rattle.sender.specs.Sender.{Framed, sentOctets, AllWellFormed}
+use Rattle.delivery.specs.Link.{Passing, arrives, loses, noise, kept, passed, arriving}
 use Rattle.delivery.specs.Demand.{Reception}
 use Rattle.delivery.proofs.Recording.{demand-3}
-use Rattle.returned.specs.Returned.{Offered}
-use Rattle.carried.specs.Carried.{Faithful, Carries, ClippedAlike}
+use Rattle.carried.specs.Carried.{Faithful, Carries, ClippedAlike, Quiet}
 
 -- ---- a sender's frames are kept whole
 
@@ -37,11 +36,15 @@ abbrev Short : List (List ℕ) → Type 0
 Short [] = Unit {0}
 Short (x ∷ xs) = (length x ≤ mostKept) × Short xs
 
+pub sent-length : (t : ℕ) (f : Framed) → fieldsWrong (f .fields) t (length (f .«data»)) (length (f .time)) ≡ false
+    → (leastLength ≤ length (sentOctets t f)) × (length (sentOctets t f) ≤ greatestLength)
+sent-length t f w =
+    let r = accepts t (sentOctets t f) _ (reads-back (f .fields) t (f .«data») (f .time) w .fields) in
+    (omega (arith, r .least), r .greatest)
+
 short : (t : ℕ) (frames : List Framed) → AllWellFormed t frames → Short (map (sentOctets t) frames)
 short t [] w = tt
-short t (f ∷ fs) w =
-    let r = accepts t (sentOctets t f) _ (reads-back (f .fields) t (f .«data») (f .time) (w .0) .fields) in
-    (omega (arith, r .greatest), short t fs (w .1))
+short t (f ∷ fs) w = (omega (arith, sent-length t f (w .0) .1), short t fs (w .1))
 
 passed-short : (link : List Passing) (xs : List (List ℕ)) → Short xs → map clipped (passed link xs) ≡ passed link xs
 passed-short [] xs h = refl
@@ -73,6 +76,22 @@ carries held Tells faithful t frames sender link stream told holds tells o gaps 
       room = o .room;
     } in
     demand-3 reception v l
+
+-- ---- what a link leaves where no stretch is refused
+
+none-left : (link : List Passing) → Quiet link → [] ≡ passed link []
+none-left [] q = refl
+none-left (arrives ∷ link) q = none-left link q
+none-left (loses ∷ link) q = none-left link q
+none-left (noise n ∷ link) q = absurd q
+
+pub quiet-passed : (t : ℕ) (link : List Passing) (frames : List Framed) → Quiet link → map found (map (sentOctets t) (kept link frames)) ≡ arriving t link frames
+quiet-passed t [] frames q = refl
+quiet-passed t (noise n ∷ link) frames q = absurd q
+quiet-passed t (arrives ∷ link) [] q = none-left link q
+quiet-passed t (arrives ∷ link) (f ∷ frames) q = ap (λ (r : List Stretch). found (sentOctets t f) ∷ r) (quiet-passed t link frames q)
+quiet-passed t (loses ∷ link) [] q = none-left link q
+quiet-passed t (loses ∷ link) (f ∷ frames) q = quiet-passed t link frames q
 
 -- ---- what is not kept changes nothing
 

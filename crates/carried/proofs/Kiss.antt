@@ -1,20 +1,12 @@
 -- KISS streams.
-use Prim.Native.Nat.{ℕ, _<_}
-use mathlib.Core.Path.{_≡_, refl, sym, ap, _∙_}
-use mathlib.Core.Bool.{Bool, true, false}
+use Prim.Native.Nat.{ℕ}
+use mathlib.Core.Path.{_≡_, ap, _∙_}
 use mathlib.Core.List.{List, [], _∷_, _++_, map}
 use mathlib.Core.Option.{Option, none, some}
 use native.Mathlib.Omega.{arith}
-use lib.ListN.{length, take}
-use lib.Dec.{eqb}
-use borrow.Author.Tests.{eqb-true}
-use Rattle.octets.specs.Numbers.{at}
-use Rattle.octets.specs.Pick.{pick}
 use Rattle.octets.proofs.Choices.{picks}
-use Rattle.answer.specs.Told.{Told}
 use Rattle.answer.specs.Refusals as no
 use Rattle.frame.specs.Frame.{readFrame}
-use Rattle.frame.specs.declared.Frame.{Frame}
 use Rattle.stretch.specs.Stretch.{Stretch, found, unread, clipped}
 use Rattle.kiss.specs.Stream.{unescaped, typed, stretchOf, stretchesOf, inner, parted, stretchesIn}
 use Rattle.kiss.specs.Statements as kiss
@@ -25,11 +17,8 @@ use Rattle.session.specs.Lent.{Lent}
 use Rattle.session.specs.Step.{Outcome, barred, accepted, outcome, turnedAway}
 use Rattle.session.specs.Statements.{offered}
 use Rattle.session.specs.declared.Session.{Session}
-use Rattle.sender.specs.Sender.{Framed, sentOctets}
-use Rattle.delivery.specs.Link.{Passing, arrives, loses, noise, kept, passed, arriving}
-use Rattle.carried.specs.Carried.{Faithful, Carries}
-use Rattle.carried.specs.Kiss.{InPieces, KissFaithful, KissCarries, Quiet, ExportsCarry, Each, Never11}
-use Rattle.carried.proofs.Carried.{carries}
+use Rattle.carried.specs.Kiss.{InPieces, KissFaithful, KissCarries, ExportsCarry, Each, Never11}
+use Rattle.carried.proofs.Carried.{carries, quiet-passed}
 
 pub kiss-faithful : KissFaithful
 kiss-faithful stream told p =
@@ -39,20 +28,6 @@ pub kiss-carries : KissCarries
 kiss-carries = carries stretchesIn InPieces kiss-faithful
 
 -- ---- what an export leaves
-
-none-left : (link : List Passing) → Quiet link → [] ≡ passed link []
-none-left [] q = refl
-none-left (arrives ∷ link) q = none-left link q
-none-left (loses ∷ link) q = none-left link q
-none-left (noise n ∷ link) q = absurd q
-
-quiet-passed : (t : ℕ) (link : List Passing) (frames : List Framed) → Quiet link → map found (map (sentOctets t) (kept link frames)) ≡ arriving t link frames
-quiet-passed t [] frames q = refl
-quiet-passed t (noise n ∷ link) frames q = absurd q
-quiet-passed t (arrives ∷ link) [] q = none-left link q
-quiet-passed t (arrives ∷ link) (f ∷ frames) q = ap (λ (r : List Stretch). found (sentOctets t f) ∷ r) (quiet-passed t link frames q)
-quiet-passed t (loses ∷ link) [] q = none-left link q
-quiet-passed t (loses ∷ link) (f ∷ frames) q = quiet-passed t link frames q
 
 pub exports-carry : ExportsCarry
 exports-carry t frames link q octets lengths out n out′ small e x =

@@ -8,7 +8,7 @@ use Rattle.session.specs.Lent.{Lent}
 use Rattle.session.specs.Statements.{offered}
 use Rattle.session.specs.declared.Session.{Session}
 use Rattle.sender.specs.Sender.{Framed, Sender}
-use Rattle.delivery.specs.Link.{Passing, arriving, fates}
+use Rattle.delivery.specs.Link.{Passing, arrives, loses, noise, arriving, fates}
 use Rattle.delivery.specs.Expected.{expectedLosses, AtMost, mostLost}
 use Rattle.delivery.specs.Delivered.{Delivered}
 use Rattle.delivery.specs.Run.{reportsOf}
@@ -31,3 +31,10 @@ module _ (held : List ℕ → List Stretch) (Tells : List ℕ → List Stretch �
 -- Octets beyond those that a reader keeps change nothing of what comes of an offer.
 abbrev pub ClippedAlike : Type 0
 ClippedAlike = (s : Session) (x : Stretch) (l : Lent) → offered s (clipped x) l ≡ offered s x l
+
+-- No stretch is refused on the way.
+abbrev pub Quiet : List Passing → Type 0
+Quiet [] = Unit {0}
+Quiet (arrives ∷ link) = Quiet link
+Quiet (loses ∷ link) = Quiet link
+Quiet (noise n ∷ link) = ⊥

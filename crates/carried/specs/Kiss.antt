@@ -11,13 +11,13 @@ use Rattle.session.specs.Lent.{Lent}
 use Rattle.session.specs.Statements.{offered}
 use Rattle.session.specs.declared.Session.{Session}
 use Rattle.sender.specs.Sender.{Framed, sentOctets}
-use Rattle.delivery.specs.Link.{Passing, arrives, loses, noise, kept, arriving}
+use Rattle.delivery.specs.Link.{Passing, kept, arriving}
 use Rattle.kiss.specs.Stream.{stretchesIn}
 use Rattle.kiss.specs.Reader.{standing, fresh}
 use Rattle.kiss.specs.Statements.{Scans, joined}
 use Rattle.kiss_export.specs.Export.{Exports}
 use Rattle.kiss_export.specs.declared.Exported.the-variants.{Length}
-use Rattle.carried.specs.Carried.{Faithful, Carries}
+use Rattle.carried.specs.Carried.{Faithful, Carries, Quiet}
 
 -- What scans by a new reader tell of a stream in some pieces.
 pub record InPieces (stream : List ℕ) (told : List Stretch) : Type 0 where
@@ -32,13 +32,6 @@ KissFaithful = Faithful stretchesIn InPieces
 
 abbrev pub KissCarries : Type 0
 KissCarries = Carries stretchesIn InPieces
-
--- No stretch is refused on the way.
-abbrev pub Quiet : List Passing → Type 0
-Quiet [] = Unit {0}
-Quiet (arrives ∷ link) = Quiet link
-Quiet (loses ∷ link) = Quiet link
-Quiet (noise n ∷ link) = ⊥
 
 -- If an export is lent the frames that arrive, what it leaves holds what the link leaves.
 abbrev pub ExportsCarry : Type 0

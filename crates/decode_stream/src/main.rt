@@ -20,12 +20,19 @@ fn time(word: &[u8]) -> u8 {
 
 // A stream of the kind that the first word names, with t by the second.
 fn stream(kind: &[u8], t: u8) {
-    if (8 < t) | !octets::same(kind, b"--kiss") {
-        io::write_all(STDERR_FILENO, b"decode: words: --kiss T, T from 0 to 8\n");
+    let kiss = octets::same(kind, b"--kiss");
+    let bits = octets::same(kind, b"--bits");
+    if (8 < t) | !(kiss | bits) {
+        io::write_all(
+            STDERR_FILENO,
+            b"decode: words: --kiss T or --bits T, T from 0 to 8\n",
+        );
         return;
     }
-    let receiver = Receiver::kiss(t);
-    lister::run_stream(b"decode", STDIN_FILENO, receiver)
+    if kiss {
+        return lister::run_stream(b"decode", STDIN_FILENO, Receiver::kiss(t));
+    }
+    lister::run_stream(b"decode", STDIN_FILENO, Receiver::bits(t))
 }
 
 fn main() {

@@ -70,6 +70,7 @@ pub fn tell(name: &[u8], octet: u64, source: Source, rest: &[u8]) {
     match source {
         Source::Recording(reader) => tell_at(name, octet, reader, rest),
         Source::Kiss(_) => {}
+        Source::Bits(_) => {}
     }
 }
 
@@ -82,6 +83,7 @@ pub fn tell_over(name: &[u8], octet: u64, source: Source, window: &[u8], used: u
             }
         }
         Source::Kiss(_) => {}
+        Source::Bits(_) => {}
     }
 }
 

@@ -11,10 +11,11 @@ use Rattle.octets.specs.Pick.{pick}
 use Rattle.octets.proofs.Choices.{picked, passed, picks}
 use Rattle.bits.specs.Rows.Order.{lowFirst}
 use Rattle.crc.specs.Check.{frameCheck, octetsOf}
+use Rattle.stretch.specs.Stretch.{Fits}
 use Rattle.stretch.specs.declared.Found.{Found}
 use Rattle.stretch.specs.declared.Found.the-variants.{Nothing, Frame, Refused}
 use Rattle.kiss.specs.Stream.{mark}
-use Rattle.kiss.specs.Reader.{Standing, standing, begun, taking, after, holds, frameLength, sealed, Outcome, closed, further, scanned, toldBy, toFind, Fits, Finds, ScansFind}
+use Rattle.kiss.specs.Reader.{Standing, standing, begun, taking, after, holds, frameLength, sealed, Outcome, closed, further, scanned, toldBy, toFind, Finds, ScansFind}
 use Rattle.kiss.specs.declared.Reader.{Reader}
 
 -- ---- behind a 0xC0 something is told

@@ -10,7 +10,7 @@ use Rattle.octets.specs.Pick.{pick}
 use Rattle.bits.specs.Rows.Order.{lowFirst}
 use Rattle.crc.specs.Check.{frameCheck, octetsOf}
 use Rattle.answer.specs.Refusals as no
-use Rattle.stretch.specs.Stretch.{Stretch, mostKept, clipped, told}
+use Rattle.stretch.specs.Stretch.{Stretch, mostKept, clipped, told, Fits}
 use Rattle.stretch.specs.declared.Found.{Found}
 use Rattle.stretch.specs.declared.Found.the-variants.{Nothing, Frame, Refused}
 use Rattle.kiss.specs.Stream.{mark, escape, forMark, forEscape, dataFrame, stretchesIn}
@@ -115,11 +115,6 @@ toFind a (x ∷ w) =
     (toFind (after (a .reader) (a .kept) x) w)
 
 -- ---- statements
-
-abbrev pub Fits : Found → List ℕ → Type 0
-Fits Nothing kept = Unit {0}
-Fits (Frame n) kept = n ≤ length kept
-Fits (Refused n) kept = Unit {0}
 
 -- A scan finds the first of what there is to be found, whatever octets p come behind the window.
 pub record Finds (a : Standing) (w : List ℕ) (r : Outcome) : Type 0 where

@@ -31,6 +31,15 @@ fn kiss(name: &[u8], t: u8) {
     }
 }
 
+// Lists the raw bits in the file of that name.
+fn bits(name: &[u8], t: u8) {
+    let file = opened(name);
+    if 0 <= file {
+        lister::run_stream(b"listings", file, Receiver::bits(t));
+        libc::close(file);
+    }
+}
+
 // The recordings that are good.
 fn good() {
     listed(b"the-case");
@@ -78,8 +87,33 @@ fn kiss_streams() {
     kiss(b"kiss-before-and-after", 0);
 }
 
+// Recordings of raw bits.
+fn raw_bits() {
+    bits(b"bits-nothing", 0);
+    bits(b"bits-no-flag", 0);
+    bits(b"bits-the-case", 0);
+    bits(b"bits-every-number", 3);
+    bits(b"bits-the-case-shifted", 0);
+    bits(b"bits-empty-stretches", 0);
+    bits(b"bits-abandoned-and-odd", 0);
+    bits(b"bits-order-16-10", 0);
+    bits(b"bits-check", 0);
+    bits(b"bits-t-8", 8);
+    bits(b"bits-t-5-wrong", 5);
+    bits(b"bits-flag-missing", 0);
+    bits(b"bits-octets-275", 0);
+    bits(b"bits-octets-276-and-a-bit", 0);
+    bits(b"bits-octets-276-abandoned", 0);
+    bits(b"bits-octets-8215", 0);
+    bits(b"bits-octets-65559", 0);
+    bits(b"bits-octets-8215-abandoned", 0);
+    bits(b"bits-before-65559", 0);
+    bits(b"bits-after-65559", 0);
+}
+
 fn main() {
     good();
     bad();
     kiss_streams();
+    raw_bits();
 }

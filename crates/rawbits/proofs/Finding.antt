@@ -12,12 +12,12 @@ use Rattle.octets.proofs.Tests.{and-true-left, and-true-right}
 use Rattle.answer.specs.Refusals.{stretchOctets, stretchAbandoned}
 use Rattle.bits.specs.Rows.{bitsOf, bitsOfAll}
 use Rattle.bits.specs.Rows.Order.{highFirst}
-use Rattle.stretch.specs.Stretch.{Stretch, mostKept, clipped, told}
+use Rattle.stretch.specs.Stretch.{Stretch, mostKept, clipped, told, Fits}
 use Rattle.stretch.specs.declared.Found.{Found}
 use Rattle.stretch.specs.declared.Found.the-variants.{Nothing, Frame, Refused}
 use Rattle.rawbits.specs.Recording.{stretchesIn}
 use Rattle.rawbits.specs.Reader.{Standing, standing, row, added, stored, begun, fresh, ends, closed, five, withOne, afterOne, afterZero, after, Passing, passed, octetPassed, Outcome, further, nothing, scanned}
-use Rattle.rawbits.specs.Finding.{toldBy, toldOf, toFind, Fits, Finds, ScansFind, FindsStream, Scans, none, more, PiecesGiveTheWhole}
+use Rattle.rawbits.specs.Finding.{toldBy, toldOf, toFind, Finds, ScansFind, FindsStream, Scans, none, more, PiecesGiveTheWhole}
 use Rattle.rawbits.specs.declared.Row.{Row}
 use Rattle.rawbits.specs.declared.Reader.{Reader}
 use Rattle.rawbits.proofs.Holding.{length-stored}

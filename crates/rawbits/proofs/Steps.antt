@@ -57,17 +57,17 @@ module _ (most : ℕ) (a : Reader) where
     closes-abandoned e = simp (s, e)
 
     module _ (t : a .abandoned ≡ false) where
-      pub closes-odd : (a .mark ≡ 0 → ⊥) → Refused stretchOctets ≡ closed most a
+      pub closes-odd : not (eqb (a .mark) 0) ≡ true → Refused stretchOctets ≡ closed most a
       unfolding closed pick
-      closes-odd e = simp (s, t, ne-eqb _ _ e)
+      closes-odd e = simp (s, t, e)
 
-      pub closes-empty : a .mark ≡ 0 → a .row .whole ≡ 0 → Nothing ≡ closed most a
+      pub closes-empty : not (eqb (a .mark) 0) ≡ false → a .row .whole ≡ 0 → Nothing ≡ closed most a
       unfolding closed pick
-      closes-empty e w = simp (s, t, eq-eqb _ _ e, eq-eqb _ _ w)
+      closes-empty e w = simp (s, t, e, eq-eqb _ _ w)
 
-      pub closes-frame : (n : ℕ) → a .mark ≡ 0 → (a .row .whole ≡ 0 → ⊥) → n ≡ min (a .row .whole) most → Frame n ≡ closed most a
+      pub closes-frame : (n : ℕ) → not (eqb (a .mark) 0) ≡ false → (a .row .whole ≡ 0 → ⊥) → n ≡ min (a .row .whole) most → Frame n ≡ closed most a
       unfolding closed pick
-      closes-frame n e w m = simp (s, t, eq-eqb _ _ e, ne-eqb _ _ w, m)
+      closes-frame n e w m = simp (s, t, e, ne-eqb _ _ w, m)
 
 -- ---- a 1, and a 0 that ends no flag
 
@@ -91,14 +91,14 @@ module _ (a : Reader) (kept : List ℕ) where
   abbrev zero : Row → List ℕ → Standing
   zero r kept′ = standing (record { seen = a .seen; ones = 0; abandoned = a .abandoned; mark = a .row .begun; row = r }) kept′
 
-  pub zero-stuffed : a .ones ≡ 5 → zero (a .row) kept ≡ after (standing a kept) false
+  pub zero-stuffed : eqb (a .ones) 5 ≡ true → zero (a .row) kept ≡ after (standing a kept) false
   unfolding after afterZero pick
-  zero-stuffed e = simp (eq-eqb _ _ e)
+  zero-stuffed e = simp e
 
-  pub zero-more : (a .ones ≡ 5 → ⊥) → (r : Row) (kept′ : List ℕ) → r ≡ added (length kept) (a .row) false → kept′ ≡ stored (a .row) false kept
+  pub zero-more : eqb (a .ones) 5 ≡ false → (r : Row) (kept′ : List ℕ) → r ≡ added (length kept) (a .row) false → kept′ ≡ stored (a .row) false kept
       → zero r kept′ ≡ after (standing a kept) false
   unfolding after afterZero pick
-  zero-more e r kept′ g k = simp (ne-eqb _ _ e, g, k)
+  zero-more e r kept′ g k = simp (e, g, k)
 
 -- ---- a bit
 

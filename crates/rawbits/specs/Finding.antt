@@ -7,9 +7,8 @@ use lib.ListN.{length, take, drop}
 use Rattle.octets.specs.Pick.{pick}
 use Rattle.bits.specs.Rows.{bitsOfAll}
 use Rattle.bits.specs.Rows.Order.{highFirst}
-use Rattle.stretch.specs.Stretch.{Stretch, mostKept, clipped, told}
-use Rattle.stretch.specs.declared.Found.{Found}
-use Rattle.stretch.specs.declared.Found.the-variants.{Nothing, Frame, Refused}
+use Rattle.stretch.specs.Stretch.{Stretch, mostKept, clipped, told, Fits}
+use Rattle.stretch.specs.declared.Found.the-variants.{Nothing}
 use Rattle.rawbits.specs.declared.Reader.{Reader}
 use Rattle.rawbits.specs.Recording.{stretchesIn}
 use Rattle.rawbits.specs.Reader.{Standing, standing, begun, fresh, ends, closed, after, Outcome, scanned}
@@ -27,11 +26,6 @@ toldOf a (b ∷ s) =
 
 abbrev pub toFind : Standing → List ℕ → List Stretch
 toFind a w = toldOf a (bitsOfAll highFirst w)
-
-abbrev pub Fits : Found → List ℕ → Type 0
-Fits Nothing kept = Unit {0}
-Fits (Frame n) kept = n ≤ length kept
-Fits (Refused n) kept = Unit {0}
 
 -- A scan finds the first of what there is to be found, whatever octets p come behind the window.
 pub record Finds (a : Standing) (w : List ℕ) (r : Outcome) : Type 0 where

@@ -128,13 +128,15 @@ impl Reader {
         ensures { λ r. ⌜ r ≡ closed most self ⌝ }
     {
         let whole = self.row.whole;
+        let odd = self.mark != 0;
+        let abandoned = self.abandoned;
         if !self.seen {
             return Found::Nothing;
         }
-        if self.abandoned {
+        if abandoned {
             return Found::Refused(answer::STRETCH_ABANDONED);
         }
-        if self.mark != 0 {
+        if odd {
             return Found::Refused(answer::STRETCH_OCTETS);
         }
         if whole == 0 {
@@ -171,8 +173,9 @@ impl Reader {
         ensures { λ r. ⌜ standing r (now (kept .exit)) ≡ after (standing self (now (kept .entry))) false ⌝ }
     {
         let row = self.row;
+        let stuffed = self.ones == 5;
         self.mark = row.begun;
-        if self.ones == 5 {
+        if stuffed {
             self.ones = 0;
             return self;
         }

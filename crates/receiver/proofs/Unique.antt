@@ -21,6 +21,8 @@ use Rattle.receiver.proofs.Receiver.recording.Kinds as krecording
 use Rattle.receiver.proofs.Receiver.recording.Reads as rrecording
 use Rattle.receiver.proofs.Receiver.kiss.Kinds as kkiss
 use Rattle.receiver.proofs.Receiver.kiss.Reads as rkiss
+use Rattle.receiver.proofs.Receiver.bits.Kinds as kbits
+use Rattle.receiver.proofs.Receiver.bits.Reads as rbits
 use Rattle.receiver.proofs.Receiver.next.Kinds as knext
 use Rattle.receiver.proofs.Receiver.next.Reads as rnext
 
@@ -29,6 +31,9 @@ recording-fixed = fixed krecording.ps krecording.r rrecording.Post _ _ (λ κs a
 
 pub kiss-fixed : Fixes kkiss.ps kkiss.r rkiss.Post (λ κs x s. x)
 kiss-fixed = fixed kkiss.ps kkiss.r rkiss.Post _ _ (λ κs a x s p. p)
+
+pub bits-fixed : Fixes kbits.ps kbits.r rbits.Post (λ κs x s. x)
+bits-fixed = fixed kbits.ps kbits.r rbits.Post _ _ (λ κs a x s p. p)
 
 -- the answer that tells so, and the event
 answerOf : Told Accepted → StepAnswer

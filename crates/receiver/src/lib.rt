@@ -1,6 +1,6 @@
 // Receives frames: what a source tells opens a session or is offered to it, one section of the octets at hand a call.
 ghost use Rattle.session.specs.Lent.{lent};
-ghost use Rattle.source.specs.Scan.{freshKiss};
+ghost use Rattle.source.specs.Scan.{freshKiss, freshBits};
 ghost use Rattle.receiver.specs.Receive.{fresh, freshStream, Receives};
 ghost use mathlib.Core.Path.{_≡_};
 use session::Session;
@@ -54,6 +54,16 @@ impl Receiver {
         ensures { λ r. ⌜ r ≡ freshStream freshKiss t ⌝ }
     {
         let source = Source::kiss();
+        let opened = Session::open(t, 0);
+        let session = opened.session;
+        Receiver { source, session }
+    }
+
+    // A receiver of raw bits of which nothing is read yet, for frames with t octets of time.
+    pub fn bits(t: u8) -> Receiver
+        ensures { λ r. ⌜ r ≡ freshStream freshBits t ⌝ }
+    {
+        let source = Source::bits();
         let opened = Session::open(t, 0);
         let session = opened.session;
         Receiver { source, session }

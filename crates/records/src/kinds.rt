@@ -44,3 +44,7 @@ pub const PICTURE_WRITER: u8 = 21;
 pub const KISS_IMPORT: u8 = 22;
 
 pub const KISS_EXPORT: u8 = 23;
+
+pub const BITS_READER: u8 = 24;
+
+pub const BITS_WRITER: u8 = 25;

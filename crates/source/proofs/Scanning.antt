@@ -21,7 +21,7 @@ use Rattle.source.specs.declared.Source.the-variants as source
 use Rattle.source.specs.declared.Taken.{Taken}
 use Rattle.source.specs.declared.Taken.the-variants as taken
 use Rattle.source.specs.declared.Scanned.{Scanned}
-use Rattle.source.proofs.Streaming.{kiss-finds}
+use Rattle.source.proofs.Streaming.{kiss-finds, bits-finds}
 
 abbrev of : Reader → Source
 of a = source.Recording a
@@ -126,6 +126,7 @@ all-find : (s : Source) (kept w : List ℕ) → Finds s kept w (scanned s kept w
 unfolding scanned keptBy
 all-find (source.Recording a) kept w = section-finds a kept w (sections-find a w)
 all-find (source.Kiss a) kept w = kiss-finds a kept w
+all-find (source.Bits a) kept w = bits-finds a kept w
 
 finds : {s : Source} {kept w : List ℕ} {r : Scanned} {kept′ : List ℕ} → Scans s kept w r kept′ → Finds s kept w r kept′
 finds {s} {kept} {w} {r} {kept′} x =

@@ -12,6 +12,8 @@ use Rattle.source.proofs.Source.recording.Kinds as krecording
 use Rattle.source.proofs.Source.recording.Reads as rrecording
 use Rattle.source.proofs.Source.kiss.Kinds as kkiss
 use Rattle.source.proofs.Source.kiss.Reads as rkiss
+use Rattle.source.proofs.Source.bits.Kinds as kbits
+use Rattle.source.proofs.Source.bits.Reads as rbits
 use Rattle.source.proofs.Source.scan.Kinds as kscan
 use Rattle.source.proofs.Source.scan.Reads as rscan
 use Rattle.source.proofs.Source.cut.Kinds as kcut
@@ -22,6 +24,9 @@ recording-fixed = fixed krecording.ps krecording.r rrecording.Post _ _ (λ κs a
 
 pub kiss-fixed : Fixes kkiss.ps kkiss.r rkiss.Post (λ κs x s. x)
 kiss-fixed = fixed kkiss.ps kkiss.r rkiss.Post _ _ (λ κs a x s p. p)
+
+pub bits-fixed : Fixes kbits.ps kbits.r rbits.Post (λ κs x s. x)
+bits-fixed = fixed kbits.ps kbits.r rbits.Post _ _ (λ κs a x s p. p)
 
 -- the answer and the octets kept afterwards
 one-scan : {s : Source} {kept w : List ℕ} {r q : Scanned} {kept₁ kept₂ : List ℕ} → Scans s kept w r kept₁ → Scans s kept w q kept₂ → _≡_ {A = Scanned × List ℕ} (r, kept₁) (q, kept₂)

@@ -9,6 +9,8 @@ use Rattle.recording.specs.Reader.{stateOf}
 use Rattle.recording.specs.declared.Reader.{Reader}
 use Rattle.recording.specs.declared.Reader.the-variants as reader
 use Rattle.kiss.specs.Reader as kiss
+use Rattle.rawbits.specs.Reader as rawbits
+use Rattle.rawbits.specs.Finding.{toFind}
 use Rattle.source.specs.declared.Source.{Source}
 use Rattle.source.specs.declared.Source.the-variants as source
 
@@ -75,8 +77,10 @@ ofStream xs = record { items = map offers xs; bad = false; cut = false }
 abbrev pub foundIn : Source → List ℕ → List ℕ → Found
 foundIn (source.Recording a) kept w = foundBy a w
 foundIn (source.Kiss a) kept w = ofStream (kiss.toFind (kiss.standing a kept) w)
+foundIn (source.Bits a) kept w = ofStream (toFind (rawbits.standing a kept) w)
 
 -- Whether the input may not end where a source stands.
 abbrev pub cutAt : Source → Bool
 cutAt (source.Recording a) = isCut (stateOf a [])
 cutAt (source.Kiss a) = false
+cutAt (source.Bits a) = false

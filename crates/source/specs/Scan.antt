@@ -15,18 +15,22 @@ use Rattle.source.specs.Found.{opens, offers, Found, nothing, one, joine
 use Rattle.stretch.specs.declared.Found.{Found as Stretched}
 use Rattle.stretch.specs.declared.Found.the-variants as stretched
 use Rattle.kiss.specs.Reader as kiss
+use Rattle.rawbits.specs.Reader as rawbits
 use Rattle.source.specs.declared.Source.{Source}
 use Rattle.source.specs.declared.Source.the-variants as source
 use Rattle.source.specs.declared.Taken.{Taken}
 use Rattle.source.specs.declared.Taken.the-variants as taken
 use Rattle.source.specs.declared.Scanned.{Scanned}
 
--- A recording, and a KISS stream, of which nothing is read yet.
+-- A recording, a KISS stream, and raw bits, of which nothing is read yet.
 abbrev pub fresh : Source
 fresh = source.Recording reader.Settings
 
 abbrev pub freshKiss : Source
 freshKiss = source.Kiss kiss.fresh
+
+abbrev pub freshBits : Source
+freshBits = source.Bits rawbits.fresh
 
 abbrev pub takenOf : Section → Taken
 takenOf (section.Missing n) = taken.Missing n
@@ -55,14 +59,19 @@ streamScanned s used size f = record { source = s; used = used; taken = streamTa
 abbrev pub ofKiss : kiss.Outcome → ℕ → Scanned
 ofKiss r size = streamScanned (source.Kiss (r .standing .reader)) (r .used) size (r .found)
 
+abbrev pub ofBits : rawbits.Outcome → ℕ → Scanned
+ofBits r size = streamScanned (source.Bits (r .standing .reader)) (r .used) size (r .found)
+
 -- What a scan of w answers, by a source that keeps these octets, and what it keeps then: a recording's reader keeps nothing.
 unfoldable pub scanned : Source → List ℕ → List ℕ → Scanned
 scanned (source.Recording a) kept w = sectionScanned (recording.scanned a w)
 scanned (source.Kiss a) kept w = ofKiss (kiss.scanned (kiss.standing a kept) w) (length w)
+scanned (source.Bits a) kept w = ofBits (rawbits.scanned (rawbits.standing a kept) w) (length w)
 
 unfoldable pub keptBy : Source → List ℕ → List ℕ → List ℕ
 keptBy (source.Recording a) kept w = kept
 keptBy (source.Kiss a) kept w = kiss.scanned (kiss.standing a kept) w .standing .kept
+keptBy (source.Bits a) kept w = rawbits.scanned (rawbits.standing a kept) w .standing .kept
 
 -- The contract of a scan: kept and kept′ are the octets kept before and after.
 pub record Scans (s : Source) (kept w : List ℕ) (r : Scanned) (kept′ : List ℕ) : Type 0 where

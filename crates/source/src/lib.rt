@@ -1,7 +1,7 @@
 // Where frames come from: what stands at the start of the octets at hand, whatever format the input has.
 ghost use mathlib.Core.Path.{_≡_};
 ghost use Rattle.source.specs.Found.{cutAt};
-ghost use Rattle.source.specs.Scan.{takenOf, streamTaken, fresh, freshKiss, Scans};
+ghost use Rattle.source.specs.Scan.{takenOf, streamTaken, fresh, freshKiss, freshBits, Scans};
 use recording::Reader;
 use stretch::Found;
 use stretch::KEPT;
@@ -10,6 +10,7 @@ use stretch::KEPT;
 pub enum Source {
     Recording(Reader),
     Kiss(kiss::Reader),
+    Bits(rawbits::Reader),
 }
 
 // What was found at a window's start.
@@ -55,6 +56,14 @@ impl Source {
         Source::Kiss(reader)
     }
 
+    // Raw bits of which nothing is read yet.
+    pub fn bits() -> Source
+        ensures { λ r. ⌜ r ≡ freshBits ⌝ }
+    {
+        let reader = rawbits::Reader::new();
+        Source::Bits(reader)
+    }
+
     // What stands at the window's start. A stream keeps the octets of a stretch that is not yet told in kept; a recording leaves them.
     pub fn scan(self, window: &[u8], kept: &mut [u8; KEPT]) -> Scanned
         ensures { λ r. ⌜ Scans self (now (kept .entry)) (now (window .entry)) r (now (kept .exit)) ⌝ }
@@ -82,6 +91,17 @@ impl Source {
                     taken,
                 }
             }
+            Source::Bits(before) => {
+                let scanned = before.scan(window, kept);
+                let reader = scanned.reader;
+                let found = scanned.found;
+                let taken = stream_told(window.len(), found);
+                Scanned {
+                    source: Source::Bits(reader),
+                    used: scanned.used,
+                    taken,
+                }
+            }
         }
     }
 
@@ -97,6 +117,7 @@ impl Source {
                 Reader::Bad => false,
             },
             Source::Kiss(_) => false,
+            Source::Bits(_) => false,
         }
     }
 }

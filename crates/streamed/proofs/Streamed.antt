@@ -6,10 +6,13 @@ use mathlib.Core.Bool.{Bool, true, false}
 use lib.ListN.{length}
 use Rattle.octets.specs.Pick.{pick}
 use Rattle.stretch.specs.Stretch.{Stretch, mostKept, clipped}
-use Rattle.kiss.specs.Stream.{stretchesIn}
-use Rattle.kiss.specs.Reader as kiss
-use Rattle.kiss.proofs.Streaming.{finds-stream}
-use Rattle.source.specs.Found.{Item, offers, ofStream}
+use Rattle.kiss.specs.Stream as kiss
+use Rattle.kiss.proofs.Streaming.{finds-stream as kiss-found}
+use Rattle.rawbits.specs.Recording as rawbits
+use Rattle.rawbits.proofs.Finding.{finds-stream as bits-found}
+use Rattle.source.specs.Found.{Found, offers, ofStream, foundIn}
+use Rattle.source.specs.Scan.{freshKiss, freshBits}
+use Rattle.source.specs.declared.Source.{Source}
 use Rattle.session.specs.Open.{opening}
 use Rattle.session.specs.Step.{Outcome}
 use Rattle.session.specs.declared.Session.{Session}
@@ -17,7 +20,7 @@ use Rattle.receiver.specs.Run.{roomy}
 use Rattle.carried.proofs.Carried.{clipped-offer}
 use Rattle.lines.specs.Text.{header}
 use Rattle.listing.specs.Listing.{made, outcomeText, itemsText, listed}
-use Rattle.streamed.specs.Streamed.{ListsKiss}
+use Rattle.streamed.specs.Streamed.{Lists, ListsKiss, ListsBits}
 
 -- what a reader does not keep of a frame that is too long changes no line
 same-lines : (s : Session) (xs : List Stretch) → itemsText s (map offers (map clipped xs)) ≡ itemsText s (map offers xs)
@@ -32,9 +35,17 @@ unfolding listed pick
 no-last-line s xs true = append-nil (itemsText s (map offers xs))
 no-last-line s xs false = append-nil (itemsText s (map offers xs))
 
-pub lists-kiss : ListsKiss
-lists-kiss t kept octets ended h =
+-- a source that finds what the stream holds, as far as it is kept
+lists : (s : Source) (holds : List ℕ → List Stretch) → ((kept octets : List ℕ) → length kept ≡ mostKept → foundIn s kept octets ≡ ofStream (map clipped (holds octets)))
+    → Lists s holds
+lists s holds found t kept octets ended h =
     ap (λ (text : List ℕ). header ++ text)
-    (no-last-line (opening t 0 .session) (kiss.toFind (kiss.standing kiss.fresh kept) octets) ended
-    ∙ ap (λ (xs : List Stretch). itemsText (opening t 0 .session) (map offers xs)) (finds-stream kept octets h)
-    ∙ same-lines (opening t 0 .session) (stretchesIn octets))
+    (ap (λ (f : Found). listed (opening t 0 .session) f ended) (found kept octets h)
+    ∙ no-last-line (opening t 0 .session) (map clipped (holds octets)) ended
+    ∙ same-lines (opening t 0 .session) (holds octets))
+
+pub lists-kiss : ListsKiss
+lists-kiss = lists freshKiss kiss.stretchesIn (λ kept octets h. ap ofStream (kiss-found kept octets h))
+
+pub lists-bits : ListsBits
+lists-bits = lists freshBits rawbits.stretchesIn (λ kept octets h. ap ofStream (bits-found kept octets h))

@@ -1,7 +1,7 @@
 -- What a stream of octets holds between two marks.
-use Prim.Native.Nat.{ℕ}
+use Prim.Native.Nat.{ℕ, _≤_}
 use mathlib.Core.List.{List, [], _∷_}
-use lib.ListN.{take}
+use lib.ListN.{length, take}
 use Rattle.stretch.specs.declared.Found.{Found}
 use Rattle.stretch.specs.declared.Found.the-variants.{Nothing, Frame, Refused}
 
@@ -23,3 +23,9 @@ abbrev pub told : Found → List ℕ → List Stretch
 told Nothing kept = []
 told (Frame n) kept = found (take n kept) ∷ []
 told (Refused n) kept = unread n ∷ []
+
+-- A frame that is told is among them.
+abbrev pub Fits : Found → List ℕ → Type 0
+Fits Nothing kept = Unit {0}
+Fits (Frame n) kept = n ≤ length kept
+Fits (Refused n) kept = Unit {0}

@@ -31,8 +31,10 @@ fn format(c: &[u8], octets: &mut [u8], words: &mut [u16], fours: &mut [u32]) {
         kinds::DAMAGE => damage_cases::read(c, octets),
         kinds::PICTURE_READER => picture_cases::read(c, octets, fours),
         kinds::PICTURE_WRITER => picture_cases::write(c, octets, fours),
-        kinds::KISS_IMPORT => kiss_cases::import(c),
-        kinds::KISS_EXPORT => kiss_cases::export(c, octets),
+        kinds::KISS_IMPORT => stream_cases::kiss_import(c),
+        kinds::KISS_EXPORT => stream_cases::kiss_export(c, octets),
+        kinds::BITS_READER => stream_cases::bits_reader(c),
+        kinds::BITS_WRITER => stream_cases::bits_writer(c, octets),
         _ => text::say(b"no such kind"),
     }
 }

@@ -1,0 +1,10 @@
+pub mod Outside
+pub mod Stuffing
+pub mod Penning
+pub mod Writing
+pub mod Counting
+pub mod Laid
+pub mod Answers
+pub mod NoFlag
+pub mod Back
+pub mod Unique
