@@ -1,8 +1,17 @@
-// The program: a training table, the file of its first word, against a recording on standard input; the verdict on standard output.
+// The program: a training table, the file of its first word, against the input that its further words name, on standard input; the verdict on
+// standard output.
 use libc::STDIN_FILENO;
 
 fn main() {
+    if inputs::refused(b"audit", 2) {
+        return;
+    }
     let mut path = io::buffer();
     let n = os::arg(1, &mut path);
-    audits::run(b"audit", octets::part(&path, 0, n), STDIN_FILENO);
+    audits::run(
+        b"audit",
+        octets::part(&path, 0, n),
+        STDIN_FILENO,
+        inputs::by_words(2),
+    );
 }

@@ -1,4 +1,4 @@
-// Checks a training table, a file, against a recording that comes by a descriptor, and writes the verdict as one line.
+// Checks a training table, a file, against a recording or a stream that comes by a descriptor, and writes the verdict as one line.
 //
 // What is told is training's. Here are the loops: the file is read twice, first for its form, then its rows beside the packets.
 use feed::Feed;
@@ -234,7 +234,7 @@ fn line(audit: Audit) -> bool {
     row & number & why & put(b"\n")
 }
 
-// Where both readings stand, of the recording and of the rows, and whether they go on.
+// Where both readings stand, of the input and of the rows, and whether they go on.
 struct State {
     feed: Feed,
     receiver: Receiver,
@@ -243,7 +243,7 @@ struct State {
 }
 
 impl State {
-    // One pull at the recording that comes by the descriptor source, and the rows beside the packets that it handed out. At its end the
+    // One pull at the input that comes by the descriptor source, and the rows beside the packets that it handed out. At its end the
     // verdict is written; with a bad recording nothing is.
     fn turn(
         self,
@@ -300,7 +300,7 @@ impl State {
     }
 }
 
-// The second reading, with buffers for the recording and for the rows.
+// The second reading, with buffers for the input and for the rows.
 fn rows(
     name: &[u8],
     table: i32,
@@ -312,9 +312,9 @@ fn rows(
     octets: &mut [u8],
     lengths: &mut [u16],
     firsts: &mut [u32],
+    receiver: Receiver,
 ) {
     let feed = Feed::fresh();
-    let receiver = Receiver::recording();
     let audit = Audit {
         check,
         at: 0,
@@ -363,7 +363,14 @@ fn told(name: &[u8], audit: Audit) {
 }
 
 // The same with buffers of its own.
-fn second(name: &[u8], table: i32, check: Check, source: i32, buffer: &mut [u8]) {
+fn second(
+    name: &[u8],
+    table: i32,
+    check: Check,
+    source: i32,
+    buffer: &mut [u8],
+    receiver: Receiver,
+) {
     let mut input = io::large_buffer();
     let mut kept = [0u8; KEPT];
     let mut octets = [0u8; Session::OCTETS];
@@ -380,6 +387,7 @@ fn second(name: &[u8], table: i32, check: Check, source: i32, buffer: &mut [u8])
         &mut octets,
         &mut lengths,
         &mut firsts,
+        receiver,
     );
 }
 
@@ -392,9 +400,9 @@ fn open(name: &[u8], path: &[u8]) -> i32 {
     table
 }
 
-// Checks the table in the file at path against the recording that comes by the descriptor source, and writes one line to standard output.
-// What fails, and why a recording is bad, is told on standard error, behind the program's name.
-pub fn run(name: &[u8], path: &[u8], source: i32) {
+// Checks the table in the file at path against what a fresh receiver hands out of the descriptor source, and writes one line to standard
+// output. What fails, and why a recording is bad, is told on standard error, behind the program's name.
+pub fn run(name: &[u8], path: &[u8], source: i32, receiver: Receiver) {
     let mut buffer = io::large_buffer();
     let first = open(name, path);
     if first < 0 {
@@ -412,7 +420,7 @@ pub fn run(name: &[u8], path: &[u8], source: i32) {
     let read = formed.form;
     let check = read.end();
     skip(table, check.start(), &mut buffer);
-    second(name, table, check, source, &mut buffer);
+    second(name, table, check, source, &mut buffer, receiver);
     libc::close(table);
 }
 

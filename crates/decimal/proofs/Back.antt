@@ -22,7 +22,7 @@ use Rattle.decimal.proofs.Decimal.{decimal-shows}
 use Rattle.decimal.proofs.Several.{read-at}
 
 -- digits only
-abbrev Digits : List ℕ → Type 0
+abbrev pub Digits : List ℕ → Type 0
 Digits [] = Unit {0}
 Digits (d ∷ ds) = (noDigit d ≡ false) × Digits ds
 
@@ -51,7 +51,7 @@ led-well (d ∷ []) p = refl
 led-well (d ∷ e ∷ ds) p = ne-eqb d 48 p
 
 -- a number's digits
-below-digits : (k n : ℕ) → Digits (decimalBelow k n)
+pub below-digits : (k n : ℕ) → Digits (decimalBelow k n)
 below-digits zero n = tt
 below-digits (suc k) n =
     picks Digits (ltb n 10) ((48 + n) ∷ []) (decimalBelow k (n / 10) ++ ((48 + n % 10) ∷ [])) (λ h. (is-digit n (ltb-true n 10 h), tt))

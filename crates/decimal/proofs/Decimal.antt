@@ -167,7 +167,7 @@ unfolding pick
 shown k n e true h = omega arith
 shown k n e false h = value-append 0 (decimalBelow k (n / 10)) (48 + n % 10) ∙ omega arith
 
-shows : (k n : ℕ) → n < 10 ^ k → valueAfter 0 (decimalBelow k n) ≡ n
+pub shows : (k n : ℕ) → n < 10 ^ k → valueAfter 0 (decimalBelow k n) ≡ n
 shows zero n h = omega arith
 shows (suc k) n h =
     let g : n < 10 ^ k * 10 = rw pow-suc at h in

@@ -13,7 +13,7 @@ unfolding pick
 either-short true x y h k = h
 either-short false x y h k = k
 
-below-short : (k n : ℕ) → length (decimalBelow k n) ≤ k
+pub below-short : (k n : ℕ) → length (decimalBelow k n) ≤ k
 below-short zero n = omega arith
 below-short (suc k) n = either-short (ltb n 10) _ _ (omega arith) (simp length-append (omega (arith, below-short k (n / 10))))
 

@@ -6,17 +6,19 @@ use kiss_export::Exported;
 use libc::STDERR_FILENO;
 use recording::Reader;
 use recording::Taken;
+use source::Source;
 
 // Room for the stream of any one frame that is accepted.
 const ROOM: usize = 600;
 
-// Where a run stands: the recording's reader and t, the input's octets from at up to end, which are read and not yet used, how many
-// frames have passed, and whether it goes on.
+// Where a run stands: the recording's reader and t, the input's octets from at up to end, which are read and not yet used, how many octets
+// were used before them and how many frames have passed, and whether it goes on.
 struct State {
     reader: Reader,
     t: u8,
     at: usize,
     end: usize,
+    passed: u64,
     frames: u64,
     going: bool,
 }
@@ -35,6 +37,7 @@ fn turns(name: &[u8], source: i32, input: &mut [u8], out: &mut [u8]) {
         t: 0,
         at: 0,
         end: 0,
+        passed: 0,
         frames: 0,
         going: true,
     };
@@ -83,28 +86,27 @@ fn hand_on(name: &[u8], t: u8, number: u64, frame: &[u8], out: &mut [u8]) -> boo
     }
 }
 
-// Whether a recording that ends here, with so many octets unused, is cut.
-fn cut(reader: Reader, left: usize) -> bool {
-    match reader {
-        Reader::Frames(n) => (n != 0) | (left != 0),
-        _ => true,
-    }
-}
-
-// Octets are missing: more are read, and if none come the run ends.
+// Octets are missing: more are read, and if none come the run ends, which is told where the recording is cut.
 fn more(name: &[u8], source: i32, input: &mut [u8], state: State) -> State {
     let at = state.at;
     let end = state.end;
     let refilled = window::refill(name, source, input, at, end);
     let reader = state.reader;
-    if !refilled.failed & (refilled.came == 0) & cut(reader, refilled.have) {
-        say(name, b": the recording is cut\n");
+    let passed = state.passed;
+    if !refilled.failed & (refilled.came == 0) {
+        faults::tell(
+            name,
+            passed,
+            Source::Recording(reader),
+            window::hand(input, 0, refilled.have),
+        );
     }
     State {
         reader,
         t: state.t,
         at: 0,
         end: refilled.have,
+        passed,
         frames: state.frames,
         going: refilled.came != 0,
     }
@@ -139,14 +141,11 @@ fn section(name: &[u8], taken: Taken, t: u8, frames: u64, hand: &[u8], out: &mut
                 going,
             }
         }
-        Taken::Bad | Taken::Over => {
-            say(name, b": bad recording\n");
-            Led {
-                t,
-                frames,
-                going: false,
-            }
-        }
+        Taken::Bad | Taken::Over => Led {
+            t,
+            frames,
+            going: false,
+        },
         Taken::Nothing | Taken::Missing(_) => Led {
             t,
             frames,
@@ -155,7 +154,7 @@ fn section(name: &[u8], taken: Taken, t: u8, frames: u64, hand: &[u8], out: &mut
     }
 }
 
-// One turn: the section at hand, or a further read.
+// One turn: the section at hand, or a further read; why a recording is bad is told.
 fn turn(name: &[u8], source: i32, input: &mut [u8], out: &mut [u8], state: State) -> State {
     let at = state.at;
     let end = state.end;
@@ -164,6 +163,17 @@ fn turn(name: &[u8], source: i32, input: &mut [u8], out: &mut [u8], state: State
     let taken = scanned.taken;
     if let Taken::Missing(_) = taken {
         return more(name, source, input, state);
+    }
+    let used = scanned.used;
+    let from = std::num::wrapping_add_usize(at, used);
+    let passed = std::num::wrapping_add_u64(state.passed, used as u64);
+    if let Taken::Bad = taken {
+        faults::tell(
+            name,
+            passed,
+            Source::Recording(reader),
+            window::hand(input, from, end),
+        );
     }
     let led = section(
         name,
@@ -177,8 +187,9 @@ fn turn(name: &[u8], source: i32, input: &mut [u8], out: &mut [u8], state: State
     State {
         reader: behind,
         t: led.t,
-        at: std::num::wrapping_add_usize(at, scanned.used),
+        at: from,
         end,
+        passed,
         frames: led.frames,
         going: led.going,
     }

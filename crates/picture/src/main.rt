@@ -1,8 +1,11 @@
-// The program: a recording on standard input, and the words IMAGE GREYMAP LINES: an image of it as a greymap in one file, its line numbers in
-// another.
+// The program: the words IMAGE GREYMAP LINES, and then those that name the input on standard input: an image of it as a greymap in one file,
+// its line numbers in another.
 use libc::STDIN_FILENO;
 
 fn main() {
+    if inputs::refused(b"picture", 4) {
+        return;
+    }
     let mut image = io::buffer();
     let mut grey = io::buffer();
     let mut lines = io::buffer();
@@ -15,5 +18,6 @@ fn main() {
         &grey[..g],
         &lines[..l],
         STDIN_FILENO,
+        inputs::by_words(4),
     );
 }

@@ -15,7 +15,8 @@ use Rattle.image.specs.Line.{Image, imageOf}
 use Rattle.image.specs.Placing.{Outcome, observed, outcome}
 use Rattle.image.specs.declared.Placed.{Placed}
 use Rattle.image.specs.declared.Placed.the-variants as placed
-use Rattle.pictures.specs.Received.{Received, received, counted, leaving, allPlaced, packetsIn}
+use Rattle.telling.specs.Counts.{counted}
+use Rattle.pictures.specs.Received.{Received, received, leaving, allPlaced, packetsIn}
 
 -- by what `place` answered
 module _ {x : Placed} {o : Outcome} {image′ lines′ : List ℕ} (refused : List ℕ) (e : observed x (imageOf image′ lines′) ≡ o) where

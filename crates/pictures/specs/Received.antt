@@ -1,12 +1,11 @@
 -- What the packets that are handed out together leave of an image: each is placed on what the one before left, and refusals are counted.
-use Prim.Native.Nat.{ℕ, _+_, _%_, _^_}
+use Prim.Native.Nat.{ℕ, _+_}
 use mathlib.Core.List.{List, [], _∷_}
-use lib.ListN.{set}
-use Rattle.octets.specs.Numbers.{at}
 use Rattle.octets.specs.Parts.{part}
 use Rattle.octets.specs.Pick.{pick}
 use Rattle.image.specs.Line.{Image, imageOf}
 use Rattle.image.specs.Placing.{Outcome, outcome}
+use Rattle.telling.specs.Counts.{counted}
 
 -- An image with its line numbers, and how many packets were refused, by the refusal's number.
 pub record Received : Type 0 where
@@ -15,10 +14,6 @@ pub record Received : Type 0 where
 
 abbrev pub received : List ℕ → List ℕ → List ℕ → Received
 received image lines refused = record { image = imageOf image lines; refused = refused }
-
--- One more of this number; a count has 64 bits.
-unfoldable pub counted : List ℕ → ℕ → List ℕ
-counted counts n = set counts n ((at counts n + 1) % 2 ^ 64)
 
 -- By what placing comes to.
 unfoldable pub leaving : Outcome → List ℕ → Received

@@ -1,4 +1,4 @@
-// A picture of one image of a recording: every packet that is handed out is placed, what is refused is counted, and at the end both files are
+// A picture of one image of a recording or a stream: every packet that is handed out is placed, what is refused is counted, and at the end both files are
 // written.
 use feed::Feed;
 use feed::Pull;
@@ -8,15 +8,21 @@ use session::StepAnswer;
 use stretch::KEPT;
 
 mod placing;
-mod telling;
 
 // One more than the greatest number of a refusal.
 const NUMBERS: usize = 124;
 
-// Places every packet that the recording on a descriptor hands out, if it is a line of the image, and writes the image as a greymap to the
-// file grey and its line numbers to the file lines. What fails, and then what was refused, is told on standard error, behind the program's
-// name.
-pub fn run(name: &[u8], image: &[u8], grey: &[u8], lines: &[u8], descriptor: i32) {
+// Places every packet that a fresh receiver hands out of a descriptor, if it is a line of the image, and writes the image as a greymap to
+// the file grey and its line numbers to the file lines. What fails, and then what was refused, is told on standard error, behind the
+// program's name.
+pub fn run(
+    name: &[u8],
+    image: &[u8],
+    grey: &[u8],
+    lines: &[u8],
+    descriptor: i32,
+    receiver: Receiver,
+) {
     let wanted = script_text::number(image);
     if 65535 < wanted {
         return telling::say(name, b": IMAGE is 0 to 65535\n");
@@ -41,6 +47,7 @@ pub fn run(name: &[u8], image: &[u8], grey: &[u8], lines: &[u8], descriptor: i32
         &mut numbers,
         &mut frames,
         &mut packets,
+        receiver,
     );
     save(name, &pixels, &numbers, grey, picture, lines, list);
     telling::tell(name, &frames, b" frame");
@@ -52,7 +59,7 @@ fn black() -> [u8; image::OCTETS] {
     [0u8; image::OCTETS]
 }
 
-// Takes the whole recording.
+// Takes the whole input.
 fn receive(
     name: &[u8],
     descriptor: i32,
@@ -61,6 +68,7 @@ fn receive(
     numbers: &mut [u32],
     frames: &mut [u64],
     packets: &mut [u64],
+    receiver: Receiver,
 ) {
     let mut input = io::large_buffer();
     turns(
@@ -72,6 +80,7 @@ fn receive(
         numbers,
         frames,
         packets,
+        receiver,
     );
 }
 
@@ -85,13 +94,14 @@ fn turns(
     numbers: &mut [u32],
     frames: &mut [u64],
     packets: &mut [u64],
+    first: Receiver,
 ) {
     let mut kept = [0u8; KEPT];
     let mut octets = [0u8; 501];
     let mut lengths = [0u16; 16];
     let mut firsts = [0u32; 16];
     let mut feed = Feed::fresh();
-    let mut receiver = Receiver::recording();
+    let mut receiver = first;
     let mut left: u64 = 18446744073709551615;
     while left > 0 {
         let pulled = feed.pull(
@@ -123,7 +133,7 @@ fn turns(
     }
 }
 
-// Takes what was told of the recording's next section, and answers whether more may come.
+// Takes what was told of the input's next section, and answers whether more may come.
 fn heed(
     pull: Pull,
     octets: &[u8],
@@ -177,7 +187,7 @@ fn answered(
                 packets,
             );
         }
-        StepAnswer::Refused(r) => placing::count(frames, r.number),
+        StepAnswer::Refused(r) => telling::count(frames, r.number),
     }
 }
 

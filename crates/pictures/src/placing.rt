@@ -3,18 +3,8 @@ ghost use mathlib.Core.Path.{_≡_};
 ghost use lib.ListN.{take};
 ghost use Rattle.image.specs.Line.{imageOf};
 ghost use Rattle.image.specs.Placing.{outcome};
-ghost use Rattle.pictures.specs.Received.{received, counted, leaving, allPlaced, packetsIn};
+ghost use Rattle.pictures.specs.Received.{received, leaving, allPlaced, packetsIn};
 use image::Placed;
-
-// Counts one more of a number, if it has a place in the counts.
-pub(crate) fn count(counts: &mut [u64], number: u16)
-    ensures { λ r. ⌜ now (counts .exit) ≡ counted (now (counts .entry)) number ⌝ }
-{
-    let n = number as usize;
-    if n < counts.len() {
-        counts[n] = std::num::wrapping_add_u64(counts[n], 1);
-    }
-}
 
 // Places a packet, or counts its refusal.
 fn place(
@@ -30,7 +20,7 @@ fn place(
     let Placed::Refused(n) = image::place(packet, arrival, wanted, image, lines) else {
         return;
     };
-    count(refused, n);
+    telling::count(refused, n);
 }
 
 // Places the packets of a frame, which stand end to end at the start of octets, by their lengths.

@@ -8,7 +8,6 @@ use Rattle.audits.proofs.rows.Reads as reads
 use Rattle.audits.proofs.rows.Lts as lts
 use Rattle.audits.proofs.State.turn.Reads as turn-reads
 use Rattle.feed.proofs.Feed.fresh.Reads as fresh-reads
-use Rattle.receiver.proofs.Receiver.recording.Reads as recording-reads
 
 abbrev Inv-loop : tie.InvT-loop
 Inv-loop name table source input₀ buffer₀ kept₀ octets₀ lengths₀ firsts₀ state₀ left₀ input buffer kept octets lengths firsts state left =
@@ -21,10 +20,6 @@ abbrev μ-loop : tie.MeasureT-loop
 -- src/lib.rt:312:9
 fresh-requires : tie.Need-fresh-requires Inv-loop μ-loop
 fresh-requires c κs = search needs
-
--- src/lib.rt:313:9
-recording-requires : tie.Need-recording-requires Inv-loop μ-loop
-recording-requires c κs = search needs
 
 -- src/lib.rt:330:5
 loop-holds : tie.Need-loop-holds Inv-loop μ-loop
@@ -104,7 +99,6 @@ rows-spec =
     Inv-loop
     μ-loop
     fresh-requires
-    recording-requires
     loop-holds
     same-length
     same-length-2

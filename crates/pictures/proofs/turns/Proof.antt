@@ -59,7 +59,7 @@ pub turns-spec : {M : Type 1} → statement M
 turns-spec =
     tie.close
     (tie.spec
-    Inv-loop μ-loop (λ c κs. search needs) (λ c κs. search needs) (λ c. search needs) (λ c. search needs)
+    Inv-loop μ-loop (λ c κs. search needs) (λ c. search needs) (λ c. search needs)
     (λ c. search needs) (λ c. search needs) (λ c κs. search needs) (λ c. search needs) (λ c. search needs)
     (λ c κs. search needs) same-length same-length-2 same-length-3 same-length-4 same-length-5
     (λ c. search needs) (λ c. search needs) (λ c. search needs) loop-again (λ c. search needs)

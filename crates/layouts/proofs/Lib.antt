@@ -1,0 +1,10 @@
+pub mod Told
+pub mod Lines
+pub mod Names
+pub mod Finding
+pub mod Kept
+pub mod Reading
+pub mod Unique
+pub mod Back
+pub mod Written
+pub mod Whole

@@ -1,0 +1,17 @@
+// The program: the layouts in the file of its first word, and what comes on standard input, a recording or what its further words name; its
+// readings on standard output.
+use libc::STDIN_FILENO;
+
+fn main() {
+    let mut path = io::buffer();
+    let n = os::arg(1, &mut path);
+    if inputs::refused(b"readings", 2) {
+        return;
+    }
+    reporter::run(
+        b"readings",
+        octets::part(&path, 0, n),
+        STDIN_FILENO,
+        inputs::by_words(2),
+    );
+}

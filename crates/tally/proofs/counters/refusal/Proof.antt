@@ -1,0 +1,11 @@
+-- `tally::counters::refusal` meets its contract.
+use Rattle.tally.proofs.Counting.{counting}
+use borrow.Author.Needs.{needs}
+use Rattle.tally.proofs.counters.refusal.Statement.{statement}
+use Rattle.tally.proofs.counters.refusal.Tie as tie
+
+pub refusal-spec : {M : Type 1} → statement M
+refusal-spec = tie.close
+    (tie.spec
+    (λ c κs. search needs) (λ c. search needs) (λ c κs. search needs) (λ c. search needs)
+    (λ c. search (counting, needs)))
