@@ -1,0 +1,2 @@
+mod Whys
+mod Stopping
