@@ -1,18 +1,21 @@
 // Checks a training table, a file, against a recording or a stream that comes by a descriptor, and writes the verdict as one line.
 //
 // What is told is training's. Here are the loops: the file is read twice, first for its form, then its rows beside the packets.
+ghost use Prim.Native.Nat.{_≤_};
+ghost use mathlib.Core.Path.{_≡_};
+ghost use lib.ListN.{length, take};
+ghost use Rattle.session.specs.Lent.{lent};
+ghost use Rattle.audit_line.specs.Text.{longestVerdict};
+ghost use Rattle.audits.specs.Turns.{FirstRead, Grows, Heeds, Turned, saidBy};
+use audit_rows::Audit;
 use feed::Feed;
 use feed::Pull;
 use libc::STDERR_FILENO;
-use libc::STDOUT_FILENO;
 use receiver::Receiver;
 use session::Session;
-use session::StepAnswer;
 use stretch::KEPT;
 use training::Check;
 use training::Form;
-use training::Verdict;
-use training::Wanted;
 
 // What the first reading gave, and whether it failed.
 struct Formed {
@@ -20,18 +23,61 @@ struct Formed {
     failed: bool,
 }
 
-// Where the second reading stands: the check, the octets of the rows from at up to end of a buffer, which are read and not yet used,
-// whether the rows of the packet at hand are done, whether the verdict stands or a read failed, its reason, 0 if the table passes, and its
-// row.
-struct Audit {
-    check: Check,
-    at: usize,
-    end: usize,
-    done: bool,
-    over: bool,
+// The form with a piece more, how many octets came, and whether the read failed.
+struct Piece {
+    form: Form,
+    came: usize,
     failed: bool,
-    reason: u16,
-    row: u32,
+}
+
+// Where both readings stand, of the input and of the rows, whether they go on, and if not whether the input has ended: then the verdict
+// stands.
+struct State {
+    feed: Feed,
+    receiver: Receiver,
+    audit: Audit,
+    going: bool,
+    ended: bool,
+}
+
+// The same of the rows alone.
+struct Heeded {
+    audit: Audit,
+    going: bool,
+    ended: bool,
+}
+
+// Checks the table in the file at path against what a fresh receiver hands out of the descriptor source, and writes one line to standard
+// output. What fails, and why a recording is bad, is told on standard error, behind the program's name.
+pub fn run(name: &[u8], path: &[u8], source: i32, receiver: Receiver) {
+    let mut buffer = io::large_buffer();
+    let first = open(name, path);
+    if first < 0 {
+        return;
+    }
+    let formed = form(name, path, first, &mut buffer);
+    libc::close(first);
+    if formed.failed {
+        return;
+    }
+    let table = open(name, path);
+    if table < 0 {
+        return;
+    }
+    let read = formed.form;
+    let check = read.end();
+    skip(table, check.start(), &mut buffer);
+    second(name, table, check, source, &mut buffer, receiver);
+    libc::close(table);
+}
+
+// Opens the table; one that cannot be opened is told.
+fn open(name: &[u8], path: &[u8]) -> i32 {
+    let table = os::open_read(path);
+    if table < 0 {
+        complain(name, path);
+    }
+    table
 }
 
 // Says on standard error, behind the program's name, that the system failed with the table.
@@ -41,328 +87,51 @@ fn complain(name: &[u8], path: &[u8]) {
     os::fail(path);
 }
 
-// The first reading: the form of the whole file, read by a buffer.
-fn form(name: &[u8], path: &[u8], table: i32, buffer: &mut [u8]) -> Formed {
+// The first reading: the form of the whole file, read by a buffer. After 2^64 - 1 pieces it would fail.
+fn form(name: &[u8], path: &[u8], table: i32, buffer: &mut [u8]) -> Formed
+    ensures { λ r. ⌜ FirstRead (r .form) ⌝ }
+{
     let mut form = Form::fresh();
     let mut left: u64 = 18446744073709551615;
     while left > 0 {
-        let got = libc::read(table, buffer);
-        if got < 0 {
-            complain(name, path);
-            return Formed { form, failed: true };
-        }
-        let n = io::count(got, buffer);
-        if n == 0 {
+        let piece = more(name, path, table, buffer, form);
+        form = piece.form;
+        if piece.failed | (piece.came == 0) {
             return Formed {
                 form,
-                failed: false,
+                failed: piece.failed,
             };
         }
-        form = form.read(octets::part(buffer, 0, n));
         left -= 1;
     }
     Formed { form, failed: true }
 }
 
-impl Audit {
-    // The verdict stands.
-    fn told(mut self, verdict: Verdict) -> Audit {
-        self.over = true;
-        match verdict {
-            Verdict::Passes => {
-                self.reason = 0;
-            }
-            Verdict::Faulty { reason, row } => {
-                self.reason = reason;
-                self.row = row;
-            }
-        }
-        self
+// Reads once, and goes on with the form by the octets that came. A read that fails is told.
+fn more(name: &[u8], path: &[u8], table: i32, buffer: &mut [u8], form: Form) -> Piece
+    ensures { λ r. ⌜ Grows form r (now (buffer .exit)) ⌝ }
+{
+    let got = libc::read(table, buffer);
+    if got < 0 {
+        complain(name, path);
     }
-
-    // One look at the rows at hand beside a packet that was handed out; if it wants more rows they are read.
-    fn turn(self, name: &[u8], table: i32, rows: &mut [u8], packet: &[u8], arrival: u32) -> Audit {
-        let mut audit = self;
-        let before = self.check;
-        let at = self.at;
-        let end = self.end;
-        let looked = before.look(window::hand(rows, at, end), packet, arrival);
-        let check = looked.check;
-        let wanted = looked.wanted;
-        let from = std::num::wrapping_add_usize(at, looked.used);
-        audit.check = check;
-        audit.at = from;
-        match wanted {
-            Wanted::Packet => {
-                audit.done = true;
-                audit
-            }
-            Wanted::Nothing(verdict) => audit.told(verdict),
-            Wanted::Rows => {
-                let refilled = window::refill(name, table, rows, from, end);
-                let have = refilled.have;
-                audit.at = 0;
-                audit.end = have;
-                if refilled.came != 0 {
-                    return audit;
-                }
-                audit.failed = refilled.failed;
-                audit.told(check.end(window::hand(rows, 0, have)))
-            }
-        }
-    }
-
-    // Goes on with the rows beside a packet that was handed out, until it wants the next or the verdict stands.
-    fn beside(
-        self,
-        name: &[u8],
-        table: i32,
-        rows: &mut [u8],
-        packet: &[u8],
-        arrival: u32,
-    ) -> Audit {
-        let mut audit = self;
-        audit.done = false;
-        let mut left: u64 = 18446744073709551615;
-        while left > 0 {
-            if audit.over | audit.done {
-                return audit;
-            }
-            audit = audit.turn(name, table, rows, packet, arrival);
-            left -= 1;
-        }
-        audit
-    }
-
-    // The same beside each of the packets that a frame handed out.
-    fn frame(
-        self,
-        name: &[u8],
-        table: i32,
-        rows: &mut [u8],
-        answer: StepAnswer,
-        octets: &[u8],
-        lengths: &[u16],
-    ) -> Audit {
-        let mut audit = self;
-        match answer {
-            StepAnswer::Refused(_) => audit,
-            StepAnswer::Accepted(a) => {
-                let packets = octets::wide(a.packets);
-                let mut from = 0;
-                let mut i = 0;
-                while i < packets && i < lengths.len() {
-                    let n = long(lengths[i]);
-                    audit = audit.beside(
-                        name,
-                        table,
-                        rows,
-                        octets::part(octets, from, n),
-                        a.arrival,
-                    );
-                    from = std::num::wrapping_add_usize(from, n);
-                    i += 1;
-                }
-                audit
-            }
-        }
-    }
-
-    // When no packet comes any more.
-    fn ended(self, name: &[u8], table: i32, rows: &mut [u8]) -> Audit {
-        let mut audit = self;
-        let mut left = Form::ROW;
-        while left > 0 {
-            if audit.over {
-                return audit;
-            }
-            let at = audit.at;
-            let end = audit.end;
-            let here = window::hand(rows, at, end).len();
-            if Form::ROW <= here {
-                left = 0;
-            } else {
-                let refilled = window::refill(name, table, rows, at, end);
-                audit.at = 0;
-                audit.end = refilled.have;
-                audit.failed = refilled.failed;
-                if refilled.came == 0 {
-                    left = 0;
-                } else {
-                    left -= 1;
-                }
-            }
-        }
-        let check = audit.check;
-        let at = audit.at;
-        let end = audit.end;
-        let verdict = check.end(window::hand(rows, at, end));
-        audit.told(verdict)
+    let came = io::count(got, buffer);
+    let next = form.read(octets::part(buffer, 0, came));
+    Piece {
+        form: next,
+        came,
+        failed: got < 0,
     }
 }
 
-// A length as a number of an index's width.
-fn long(n: u16) -> usize {
-    n as usize
-}
-
-// Writes text to standard output.
-fn put(text: &[u8]) -> bool {
-    io::write_all(STDOUT_FILENO, text)
-}
-
-// Writes the words of a reason.
-fn words(reason: u16) -> bool {
-    match reason {
-        answer::TABLE_FORM => put(b"the table is badly formed"),
-        answer::ROW_ORDER => put(b"rows out of order"),
-        answer::ROW_PACKET => put(b"no such packet or column, or a packet that was turned away"),
-        answer::ROW_VALUE => put(b"the value is not in the packet"),
-        answer::ROW_CLAIM => put(b"claimed before the frame arrived that told it"),
-        _ => false,
+// Reads the octets before the rows; where they are not there any more the rows are not either.
+fn skip(table: i32, n: usize, buffer: &mut [u8]) {
+    if n <= buffer.len() {
+        io::read_full(table, &mut buffer[..n]);
     }
 }
 
-// Writes the verdict as one line.
-fn line(audit: Audit) -> bool {
-    if audit.reason == 0 {
-        return put(b"passes\n");
-    }
-    let row = put(b"row ") & io::print_decimal(STDOUT_FILENO, audit.row as u64);
-    let number = put(b": ") & io::print_decimal(STDOUT_FILENO, audit.reason as u64);
-    let why = put(b": ") & words(audit.reason);
-    row & number & why & put(b"\n")
-}
-
-// Where both readings stand, of the input and of the rows, and whether they go on.
-struct State {
-    feed: Feed,
-    receiver: Receiver,
-    audit: Audit,
-    going: bool,
-}
-
-impl State {
-    // One pull at the input that comes by the descriptor source, and the rows beside the packets that it handed out. At its end the
-    // verdict is written; with a bad recording nothing is.
-    fn turn(
-        self,
-        name: &[u8],
-        table: i32,
-        source: i32,
-        input: &mut [u8],
-        buffer: &mut [u8],
-        kept: &mut [u8; KEPT],
-        octets: &mut [u8],
-        lengths: &mut [u16],
-        firsts: &mut [u32],
-    ) -> State {
-        let before = self.feed;
-        let last = self.receiver;
-        let audit = self.audit;
-        let pulled = before.pull(name, source, input, last, kept, octets, lengths, firsts);
-        let pull = pulled.pull;
-        let feed = pulled.feed;
-        let receiver = pulled.receiver;
-        match pull {
-            Pull::More | Pull::Opened => State {
-                feed,
-                receiver,
-                audit,
-                going: true,
-            },
-            Pull::Answered(answer) => {
-                let next = audit.frame(name, table, buffer, answer, octets, lengths);
-                State {
-                    feed,
-                    receiver,
-                    audit: next,
-                    going: true,
-                }
-            }
-            Pull::Bad | Pull::Cut | Pull::Failed => State {
-                feed,
-                receiver,
-                audit,
-                going: false,
-            },
-            Pull::End => {
-                let next = audit.ended(name, table, buffer);
-                told(name, next);
-                State {
-                    feed,
-                    receiver,
-                    audit: next,
-                    going: false,
-                }
-            }
-        }
-    }
-}
-
-// The second reading, with buffers for the input and for the rows.
-fn rows(
-    name: &[u8],
-    table: i32,
-    check: Check,
-    source: i32,
-    input: &mut [u8],
-    buffer: &mut [u8],
-    kept: &mut [u8; KEPT],
-    octets: &mut [u8],
-    lengths: &mut [u16],
-    firsts: &mut [u32],
-    receiver: Receiver,
-) {
-    let feed = Feed::fresh();
-    let audit = Audit {
-        check,
-        at: 0,
-        end: 0,
-        done: false,
-        over: false,
-        failed: false,
-        reason: 0,
-        row: 0,
-    };
-    let mut state = State {
-        feed,
-        receiver,
-        audit,
-        going: true,
-    };
-    let mut left: u64 = 18446744073709551615;
-    while left > 0 {
-        if !state.going {
-            return;
-        }
-        state = state.turn(
-            name,
-            table,
-            source,
-            input,
-            buffer,
-            kept,
-            octets,
-            lengths,
-            firsts,
-        );
-        left -= 1;
-    }
-}
-
-// Writes the verdict, unless a read of the table failed, which was told; a write that fails is told.
-fn told(name: &[u8], audit: Audit) {
-    if audit.failed {
-        return;
-    }
-    if !line(audit) {
-        io::write_all(STDERR_FILENO, name);
-        os::fail(b": standard output");
-    }
-}
-
-// The same with buffers of its own.
+// The second reading, with a buffer for the rows.
 fn second(
     name: &[u8],
     table: i32,
@@ -391,42 +160,144 @@ fn second(
     );
 }
 
-// Opens the table; one that cannot be opened is told.
-fn open(name: &[u8], path: &[u8]) -> i32 {
-    let table = os::open_read(path);
-    if table < 0 {
-        complain(name, path);
+// The same with all buffers. After 2^64 - 1 turns it would end too.
+fn rows(
+    name: &[u8],
+    table: i32,
+    check: Check,
+    source: i32,
+    input: &mut [u8],
+    buffer: &mut [u8],
+    kept: &mut [u8; KEPT],
+    octets: &mut [u8],
+    lengths: &mut [u16],
+    firsts: &mut [u32],
+    receiver: Receiver,
+) {
+    let feed = Feed::fresh();
+    let audit = Audit::fresh(check);
+    let mut state = State {
+        feed,
+        receiver,
+        audit,
+        going: true,
+        ended: false,
+    };
+    let mut left: u64 = 18446744073709551615;
+    while left > 0 {
+        if !state.going {
+            told(name, state);
+            return;
+        }
+        state = state.turn(
+            name,
+            table,
+            source,
+            input,
+            buffer,
+            kept,
+            octets,
+            lengths,
+            firsts,
+        );
+        left -= 1;
     }
-    table
 }
 
-// Checks the table in the file at path against what a fresh receiver hands out of the descriptor source, and writes one line to standard
-// output. What fails, and why a recording is bad, is told on standard error, behind the program's name.
-pub fn run(name: &[u8], path: &[u8], source: i32, receiver: Receiver) {
-    let mut buffer = io::large_buffer();
-    let first = open(name, path);
-    if first < 0 {
-        return;
+impl State {
+    // One pull at the input that comes by the descriptor source, and the rows beside the packets that it handed out.
+    fn turn(
+        self,
+        name: &[u8],
+        table: i32,
+        source: i32,
+        input: &mut [u8],
+        rows: &mut [u8],
+        kept: &mut [u8; KEPT],
+        octets: &mut [u8],
+        lengths: &mut [u16],
+        firsts: &mut [u32],
+    ) -> State
+        ensures { λ r. ⌜ Turned self (now (input .entry)) (now (kept .entry))
+            (lent (now (octets .entry)) (now (lengths .entry)) (now (firsts .entry))) (now (rows .entry)) r (now (input .exit)) (now (kept .exit))
+            (lent (now (octets .exit)) (now (lengths .exit)) (now (firsts .exit))) (now (rows .exit)) ⌝ }
+    {
+        let before = self.feed;
+        let last = self.receiver;
+        let audit = self.audit;
+        let pulled = before.pull(name, source, input, last, kept, octets, lengths, firsts);
+        let pull = pulled.pull;
+        let feed = pulled.feed;
+        let receiver = pulled.receiver;
+        let heeded = heed(name, table, rows, audit, pull, octets, lengths);
+        let next = heeded.audit;
+        State {
+            feed,
+            receiver,
+            audit: next,
+            going: heeded.going,
+            ended: heeded.ended,
+        }
     }
-    let formed = form(name, path, first, &mut buffer);
-    libc::close(first);
-    if formed.failed {
-        return;
-    }
-    let table = open(name, path);
-    if table < 0 {
-        return;
-    }
-    let read = formed.form;
-    let check = read.end();
-    skip(table, check.start(), &mut buffer);
-    second(name, table, check, source, &mut buffer, receiver);
-    libc::close(table);
 }
 
-// Reads the octets before the rows; where they are not there any more the rows are not either.
-fn skip(table: i32, n: usize, buffer: &mut [u8]) {
-    if n <= buffer.len() {
-        io::read_full(table, &mut buffer[..n]);
+// Takes what was told of the input: the rows beside the packets that a frame handed out, and at the input's end what is still to be said of
+// them.
+fn heed(
+    name: &[u8],
+    table: i32,
+    rows: &mut [u8],
+    audit: Audit,
+    pull: Pull,
+    octets: &[u8],
+    lengths: &[u16],
+) -> Heeded
+    ensures { λ r. ⌜ Heeds audit (now (rows .entry)) (now (octets .entry)) (now (lengths .entry)) r (now (rows .exit)) pull ⌝ }
+{
+    let next;
+    let mut going = true;
+    let mut ended = false;
+    match pull {
+        Pull::More | Pull::Opened => {
+            next = audit;
+        }
+        Pull::Answered(answer) => {
+            next = audit.frame(name, table, rows, answer, octets, lengths);
+        }
+        Pull::Bad | Pull::Cut | Pull::Failed => {
+            next = audit;
+            going = false;
+        }
+        Pull::End => {
+            next = audit.ended(name, table, rows);
+            going = false;
+            ended = true;
+        }
     }
+    Heeded {
+        audit: next,
+        going,
+        ended,
+    }
+}
+
+// Writes what is to be told at the end.
+fn told(name: &[u8], state: State) {
+    let mut line = [0u8; audit_line::VERDICT];
+    let n = said(state, &mut line);
+    window::unwritten(name, &line, n);
+}
+
+// Puts what is to be told at the end into out, and answers how many octets that are: the verdict's line, if the input has ended and no read
+// of the table failed, which was told; else nothing.
+fn said(state: State, out: &mut [u8]) -> usize
+    requires { ⌜ longestVerdict ≤ length (now out) ⌝ }
+    ensures { λ r. ⌜ take r (now (out .exit)) ≡ saidBy state ⌝ }
+{
+    let audit = state.audit;
+    if !state.ended | audit.failed {
+        return 0;
+    }
+    let verdict = audit.verdict;
+    audit_line::line(out, 0, verdict)
 }

@@ -1,0 +1,5 @@
+pub mod Looks
+pub mod Reading
+pub mod Frames
+pub mod Right
+pub mod Unique
