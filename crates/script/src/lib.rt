@@ -1,17 +1,25 @@
 // A script of the test bench, made into a recording: settings, packets, and steps that the sender makes frames of, a line each.
 //
 // What the frames are is sender's. Here are the lines.
-ghost use Prim.Native.Nat.{_≤_};
+ghost use mathlib.Core.Path.{_≡_};
+ghost use Prim.Native.Nat.{_-_, _≤_};
 ghost use lib.ListN.{length};
+ghost use Rattle.script_steps.specs.Step.{lent};
+ghost use Rattle.script.specs.Turn.{Ends, turned, turning, isFault, freshPlace, run, running};
 use libc::STDERR_FILENO;
 use script_settings::Fault;
 use script_settings::State;
 
 // Whether there is a fault.
-fn faulty(fault: Fault) -> bool {
+fn faulty(fault: Fault) -> bool
+    ensures { λ r. ⌜ r ≡ isFault fault ⌝ }
+{
     match fault {
         Fault::Nothing => false,
-        _ => true,
+        Fault::Word => true,
+        Fault::Value => true,
+        Fault::Room => true,
+        Fault::Refused(_) => true,
     }
 }
 
@@ -42,6 +50,16 @@ struct Place {
     fault: Fault,
 }
 
+// a less b, or 0 if b is the larger.
+fn less(a: usize, b: usize) -> usize
+    ensures { λ r. ⌜ r ≡ a - b ⌝ }
+{
+    if a < b {
+        return 0;
+    }
+    a - b
+}
+
 // One line, from one index of the script up to another. A line `link` gives signs for the frames that follow, one each: - is lost,
 // any other arrives.
 fn turn(
@@ -54,39 +72,38 @@ fn turn(
     lengths: &mut [u16],
     made: &mut [u8],
     frames: &mut [u16],
-) -> Place {
-    let line = octets::part(script, at, std::num::wrapping_sub_usize(end, at));
-    let mut next = before;
+) -> Place
+    requires { ⌜ at ≤ end ⌝ }
+    ensures { λ r. ⌜ turned r (lent (now (stamp .exit)) (now (packets .exit)) (now (lengths .exit)) (now (made .exit)) (now (frames .exit)))
+        ≡ turning before (now (script .entry)) at end
+        (lent (now (stamp .entry)) (now (packets .entry)) (now (lengths .entry)) (now (made .entry)) (now (frames .entry))) ⌝ }
+{
+    let line = octets::part(script, at, end - at);
     if octets::same(script_text::word(line), b"link") {
+        let mut next = before;
         next.link = std::num::wrapping_add_usize(at, 5);
         next.signs = script_text::rest(line).len();
         return next;
     }
     let state = before.state;
+    let link = before.link;
+    let signs = before.signs;
+    let first = state.made;
     let stepped = script_steps::step(state, line, stamp, packets, lengths, made, frames);
     let after = stepped.state;
     let fault = stepped.fault;
-    let link = before.link;
-    let signs = before.signs;
+    let last = after.made;
     script_recording::lose(
         octets::part(script, link, signs),
         frames,
-        state.frames,
-        after.frames,
+        first.count,
+        last.count,
     );
-    let more = std::num::wrapping_sub_usize(after.frames, state.frames);
-    if signs < more {
-        return Place {
-            state: after,
-            link,
-            signs: 0,
-            fault,
-        };
-    }
+    let more = less(last.count, first.count);
     Place {
         state: after,
         link: std::num::wrapping_add_usize(link, more),
-        signs: signs - more,
+        signs: less(signs, more),
         fault,
     }
 }
@@ -94,7 +111,7 @@ fn turn(
 // Where the line ends that stands at an index of s.
 fn line_end(s: &[u8], at: usize) -> usize
     requires { ⌜ at ≤ length (now s) ⌝ }
-    ensures { λ r. ⌜ (at ≤ r) × (r ≤ length (now (s .entry))) × (r ≤ 9223372036854775807) ⌝ }
+    ensures { λ r. ⌜ Ends (now (s .entry)) at r ⌝ }
 {
     let mut i = at;
     while i < s.len() {
@@ -104,6 +121,57 @@ fn line_end(s: &[u8], at: usize) -> usize
         i += 1;
     }
     i
+}
+
+// Where a script stands, and how many lines it went over.
+struct Ran {
+    place: Place,
+    lines: u64,
+}
+
+// Goes over the lines of a script, up to the first that has a fault.
+fn over(
+    script: &[u8],
+    stamp: &mut [u8],
+    packets: &mut [u8],
+    lengths: &mut [u16],
+    made: &mut [u8],
+    frames: &mut [u16],
+) -> Ran
+    ensures { λ r. ⌜ run (r .place) (r .lines) (lent (now (stamp .exit)) (now (packets .exit)) (now (lengths .exit)) (now (made .exit)) (now (frames .exit)))
+        ≡ running (length (now (script .entry))) freshPlace (now (script .entry)) 0 0
+        (lent (now (stamp .entry)) (now (packets .entry)) (now (lengths .entry)) (now (made .entry)) (now (frames .entry))) ⌝ }
+{
+    let state = State::fresh();
+    let mut place = Place {
+        state,
+        link: 0,
+        signs: 0,
+        fault: Fault::Nothing,
+    };
+    let mut lines: u64 = 0;
+    let mut at = 0;
+    while at < script.len() {
+        let end = line_end(script, at);
+        place = turn(
+            place,
+            script,
+            at,
+            end,
+            stamp,
+            packets,
+            lengths,
+            made,
+            frames,
+        );
+        lines = std::num::wrapping_add_u64(lines, 1);
+        let fault = place.fault;
+        if faulty(fault) {
+            return Ran { place, lines };
+        }
+        at = end + 1;
+    }
+    Ran { place, lines }
 }
 
 // Goes over the lines of a script; at their end the recording is written, at a fault it is said and nothing is written.
@@ -116,28 +184,17 @@ fn lines(
     made: &mut [u8],
     frames: &mut [u16],
 ) {
-    let state = State::fresh();
-    let mut now = Place {
-        state,
-        link: 0,
-        signs: 0,
-        fault: Fault::Nothing,
-    };
-    let mut number: u64 = 0;
-    let mut at = 0;
-    while at < script.len() {
-        let end = line_end(script, at);
-        now = turn(now, script, at, end, stamp, packets, lengths, made, frames);
-        number = std::num::wrapping_add_u64(number, 1);
-        let fault = now.fault;
-        if faulty(fault) {
-            say(name, number, fault);
-            return;
-        }
-        at = end + 1;
+    let ran = over(script, stamp, packets, lengths, made, frames);
+    let place = ran.place;
+    let fault = place.fault;
+    if faulty(fault) {
+        say(name, ran.lines, fault);
+        return;
     }
-    let last = now.state;
-    script_recording::record(name, last.t, made, script_steps::front(frames, last.frames));
+    let state = place.state;
+    let common = state.common;
+    let row = state.made;
+    script_recording::record(name, common.t, made, script_steps::front(frames, row.count));
 }
 
 // Makes the recording of the script that comes by the descriptor source, on standard output. What fails is told on standard error,

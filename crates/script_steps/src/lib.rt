@@ -1,7 +1,30 @@
 // The lines of a script, each a step: what it sets, the packets that wait, the frames that it makes.
+//
+// No public function asks anything of a caller.
+ghost use mathlib.Core.Path.{_≡_};
+ghost use mathlib.Core.Bool.{_||_};
+ghost use lib.ListN.{length, take};
+ghost use lib.Dec.{eqb};
+ghost use Rattle.octets.specs.Numbers.{at};
+ghost use Rattle.script_steps.specs.Step.{
+  entered,
+  queued,
+  queuing,
+  laid,
+  sending,
+  sendingAll,
+  emptying,
+  framing,
+  lent,
+  outcome,
+  making,
+  remark,
+  stepping,
+};
 use counts::ChannelCount;
 use counts::MasterCount;
 use script_settings::Fault;
+use script_settings::Row;
 use script_settings::State;
 use script_settings::Stepped;
 use sender::SendAnswer;
@@ -10,16 +33,22 @@ use sender::SendAnswer;
 const LONGEST: usize = 1024;
 
 // Puts a length into a list, if it has that place.
-fn enter(list: &mut [u16], place: usize, length: usize) {
+fn enter(list: &mut [u16], place: usize, length: usize)
+    ensures { λ _. ⌜ now (list .exit) ≡ entered (now (list .entry)) place length ⌝ }
+{
     if place < list.len() {
         list[place] = (length % 65536) as u16;
     }
 }
 
 // One packet more to be sent.
-fn packet(state: State, value: &[u8], packets: &mut [u8], lengths: &mut [u16]) -> Stepped {
-    let at = state.octets;
-    let k = state.packets;
+fn packet(state: State, value: &[u8], packets: &mut [u8], lengths: &mut [u16]) -> Stepped
+    ensures { λ r. ⌜ queued r (now (packets .exit)) (now (lengths .exit))
+        ≡ queuing state (now (value .entry)) (now (packets .entry)) (now (lengths .entry)) ⌝ }
+{
+    let waiting = state.waiting;
+    let at = waiting.octets;
+    let k = waiting.count;
     if packets.len() < at {
         return state.stopped(Fault::Room);
     }
@@ -32,13 +61,14 @@ fn packet(state: State, value: &[u8], packets: &mut [u8], lengths: &mut [u16]) -
     }
     enter(lengths, k, n);
     let mut next = state;
-    next.octets = std::num::wrapping_add_usize(at, n);
-    next.packets = std::num::wrapping_add_usize(k, 1);
+    next.waiting = waiting.more(n, 1);
     next.going()
 }
 
 // The first n of a list; all if there are fewer.
-pub fn front(list: &[u16], n: usize) -> &[u16] {
+pub fn front(list: &[u16], n: usize) -> &[u16]
+    ensures { λ r. ⌜ now r ≡ take n (now (list .entry)) ⌝ }
+{
     if list.len() < n {
         return list;
     }
@@ -53,23 +83,30 @@ fn send(
     lengths: &[u16],
     out: &mut [u8],
     list: &mut [u16],
-) -> Stepped {
-    let common = state.common();
+) -> Stepped
+    ensures { λ r. ⌜ laid r (now (out .exit)) (now (list .exit))
+        ≡ sending state (now (stamp .entry)) (now (packets .entry)) (now (lengths .entry)) (now (out .entry)) (now (list .entry)) ⌝ }
+{
+    let common = state.common;
+    let waiting = state.waiting;
     match sender::send(
         common,
         MasterCount(state.master),
         ChannelCount(state.count()),
         octets::part(stamp, 0, state.stamp),
-        octets::part(packets, 0, state.octets),
-        front(lengths, state.packets),
+        octets::part(packets, 0, waiting.octets),
+        front(lengths, waiting.count),
         state.size,
         out,
         list,
     ) {
         SendAnswer::Sent(s) => {
+            let none = Row {
+                octets: 0,
+                count: 0,
+            };
             let mut next = state.sent(s);
-            next.octets = 0;
-            next.packets = 0;
+            next.waiting = none;
             next.going()
         }
         SendAnswer::Refused(n) => state.stopped(Fault::Refused(n)),
@@ -84,8 +121,12 @@ fn send_all(
     lengths: &[u16],
     out: &mut [u8],
     frames: &mut [u16],
-) -> Stepped {
-    let first = state.frames;
+) -> Stepped
+    ensures { λ r. ⌜ laid r (now (out .exit)) (now (frames .exit))
+        ≡ sendingAll state (now (stamp .entry)) (now (packets .entry)) (now (lengths .entry)) (now (out .entry)) (now (frames .entry)) ⌝ }
+{
+    let made = state.made;
+    let first = made.count;
     if frames.len() < first {
         return state.stopped(Fault::Room);
     }
@@ -93,8 +134,12 @@ fn send_all(
 }
 
 // One empty frame.
-fn empty(state: State, stamp: &[u8], out: &mut [u8], frames: &mut [u16]) -> Stepped {
-    let common = state.common();
+fn empty(state: State, stamp: &[u8], out: &mut [u8], frames: &mut [u16]) -> Stepped
+    ensures { λ r. ⌜ laid r (now (out .exit)) (now (frames .exit))
+        ≡ emptying state (now (stamp .entry)) (now (out .entry)) (now (frames .entry)) ⌝ }
+{
+    let common = state.common;
+    let made = state.made;
     match sender::empty(
         common,
         MasterCount(state.master),
@@ -103,7 +148,7 @@ fn empty(state: State, stamp: &[u8], out: &mut [u8], frames: &mut [u16]) -> Step
         out,
     ) {
         SendAnswer::Sent(s) => {
-            enter(frames, state.frames, s.octets);
+            enter(frames, made.count, s.octets);
             state.sent(s).going()
         }
         SendAnswer::Refused(n) => state.stopped(Fault::Refused(n)),
@@ -111,15 +156,18 @@ fn empty(state: State, stamp: &[u8], out: &mut [u8], frames: &mut [u16]) -> Step
 }
 
 // A frame as it stands, whatever it is.
-fn frame(state: State, value: &[u8], out: &mut [u8], frames: &mut [u16]) -> Stepped {
+fn frame(state: State, value: &[u8], out: &mut [u8], frames: &mut [u16]) -> Stepped
+    ensures { λ r. ⌜ laid r (now (out .exit)) (now (frames .exit))
+        ≡ framing state (now (value .entry)) (now (out .entry)) (now (frames .entry)) ⌝ }
+{
+    let made = state.made;
     let n = script_text::hex(value, out);
     if LONGEST < n {
         return state.stopped(Fault::Value);
     }
-    enter(frames, state.frames, n);
+    enter(frames, made.count, n);
     let mut next = state;
-    next.made = std::num::wrapping_add_usize(state.made, n);
-    next.frames = std::num::wrapping_add_usize(state.frames, 1);
+    next.made = made.more(n, 1);
     next.going()
 }
 
@@ -132,10 +180,15 @@ fn make(
     lengths: &[u16],
     out: &mut [u8],
     frames: &mut [u16],
-) -> Stepped {
+) -> Stepped
+    ensures { λ r. ⌜ outcome r (lent (now (stamp .exit)) (now (packets .entry)) (now (lengths .entry)) (now (out .exit)) (now (frames .exit)))
+        ≡ making state (now (line .entry))
+        (lent (now (stamp .entry)) (now (packets .entry)) (now (lengths .entry)) (now (out .entry)) (now (frames .entry))) ⌝ }
+{
+    let made = state.made;
     let word = script_text::word(line);
     let value = script_text::rest(line);
-    if frames.len() <= state.frames {
+    if frames.len() <= made.count {
         return state.stopped(Fault::Room);
     }
     if octets::same(line, b"send") {
@@ -150,6 +203,16 @@ fn make(
     script_settings::set(state, word, value, stamp)
 }
 
+// Whether nothing is done of a line: an empty one, and one that begins with #.
+fn passed_over(line: &[u8]) -> bool
+    ensures { λ r. ⌜ r ≡ (eqb (length (now (line .entry))) 0 || eqb (at (now (line .entry)) 0) remark) ⌝ }
+{
+    if line.len() == 0 {
+        return true;
+    }
+    line[0] == b'#'
+}
+
 // The step that a line is, with the time's octets, the packets that wait and the frames made. Nothing is done of an empty line and of
 // one that starts with #.
 pub fn step(
@@ -160,9 +223,14 @@ pub fn step(
     lengths: &mut [u16],
     made: &mut [u8],
     frames: &mut [u16],
-) -> Stepped {
-    let from = state.made;
-    if (line.len() == 0) | octets::same(octets::part(line, 0, 1), b"#") {
+) -> Stepped
+    ensures { λ r. ⌜ outcome r (lent (now (stamp .exit)) (now (packets .exit)) (now (lengths .exit)) (now (made .exit)) (now (frames .exit)))
+        ≡ stepping state (now (line .entry))
+        (lent (now (stamp .entry)) (now (packets .entry)) (now (lengths .entry)) (now (made .entry)) (now (frames .entry))) ⌝ }
+{
+    let row = state.made;
+    let from = row.octets;
+    if passed_over(line) {
         return state.going();
     }
     if octets::same(script_text::word(line), b"packet") {

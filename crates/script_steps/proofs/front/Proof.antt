@@ -1,13 +1,8 @@
-use mathlib.Core.Path.{sym}
-use lib.Seq.{length-take-le}
+-- `front` meets its contract.
 use borrow.Author.Needs.{needs}
+use Rattle.script_steps.proofs.Steps.{all-of, first-of}
 use Rattle.script_steps.proofs.front.Statement.{statement}
 use Rattle.script_steps.proofs.front.Tie as tie
 
-slice-aggregate-result : tie.Need-slice-aggregate-result
-slice-aggregate-result c = sym (length-take-le _ _ (search needs))
-
 pub front-spec : {M : Type 1} → statement M
-front-spec = tie.close
-    (tie.spec
-    (λ c. search needs) slice-aggregate-result (λ c. search needs))
+front-spec = tie.close (tie.spec (λ c. all-of (c .before .args .list .now) (c .before .args .n) (search needs)) (λ c. first-of (c .before .before .args .list .now) (c .before .before .args .n) (search needs)) (λ c. search needs))

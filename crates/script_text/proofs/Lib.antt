@@ -1,0 +1,4 @@
+pub mod Splitting
+pub mod Counting
+pub mod Pairing
+pub mod Unique
