@@ -1,7 +1,12 @@
 // Writes the accepted frames of a recording that comes by a descriptor as a KISS stream, each as soon as it is whole.
 //
 // What is written of a frame is kiss_export's. A frame that is refused is left out and told on standard error.
-use answer::Refusal;
+//
+// What computes is apart from what writes: a section leaves its octets in the output, and a turn writes them.
+ghost use mathlib.Core.Path.{_≡_};
+ghost use Prim.Native.Nat.{_≤_};
+ghost use lib.ListN.{length};
+ghost use Rattle.exporter.specs.Turns.{room, Fits, HandsOn, leads, ledTo, Sections, Reads, Turned};
 use kiss_export::Exported;
 use libc::STDERR_FILENO;
 use recording::Reader;
@@ -12,7 +17,8 @@ use source::Source;
 const ROOM: usize = 600;
 
 // Where a run stands: the recording's reader and t, the input's octets from at up to end, which are read and not yet used, how many octets
-// were used before them and how many frames have passed, and whether it goes on.
+// were used before them and how many frames have passed, the output's octets from an index up to another, which the last turn wrote, whether
+// it goes on, and whether a write failed.
 struct State {
     reader: Reader,
     t: u8,
@@ -20,7 +26,10 @@ struct State {
     end: usize,
     passed: u64,
     frames: u64,
+    from: usize,
+    to: usize,
     going: bool,
+    failed: bool,
 }
 
 // Writes what comes by the descriptor source to standard output. What fails is told on standard error, behind the program's name.
@@ -31,7 +40,9 @@ pub fn run(name: &[u8], source: i32) {
 }
 
 // The whole run. It ends with the input, a bad recording or a failed write; after 2^64 - 1 turns it would end too.
-fn turns(name: &[u8], source: i32, input: &mut [u8], out: &mut [u8]) {
+fn turns(name: &[u8], source: i32, input: &mut [u8], out: &mut [u8])
+    requires { ⌜ room ≤ length (now out) ⌝ }
+{
     let mut state = State {
         reader: Reader::Settings,
         t: 0,
@@ -39,7 +50,10 @@ fn turns(name: &[u8], source: i32, input: &mut [u8], out: &mut [u8]) {
         end: 0,
         passed: 0,
         frames: 0,
+        from: 0,
+        to: 0,
         going: true,
+        failed: false,
     };
     let mut left: u64 = 18446744073709551615;
     while left > 0 {
@@ -58,11 +72,11 @@ fn say(name: &[u8], what: &[u8]) {
 }
 
 // Says that a frame is left out, and why.
-fn left_out(name: &[u8], frame: u64, refusal: Refusal) {
+fn left_out(name: &[u8], frame: u64, refusal: u16) {
     say(name, b": frame ");
     io::print_decimal(STDERR_FILENO, frame);
     io::write_all(STDERR_FILENO, b" is left out: refusal ");
-    io::print_decimal(STDERR_FILENO, refusal.number as u64);
+    io::print_decimal(STDERR_FILENO, refusal as u64);
     io::write_all(STDERR_FILENO, b"\n");
 }
 
@@ -71,23 +85,126 @@ fn written(name: &[u8], octets: &[u8]) -> bool {
     window::unwritten(name, octets, octets.len()) == 0
 }
 
-// Writes one frame's block behind the 0xC0 that stands already, or says that it is left out; whether the run goes on.
-fn hand_on(name: &[u8], t: u8, number: u64, frame: &[u8], out: &mut [u8]) -> bool {
+// A frame handed on: its block is the output's octets from index 1 up to an index, behind the 0xC0 that stands already; and its refusal.
+struct Handed {
+    to: usize,
+    refusal: u16,
+}
+
+// Leaves one frame's block in the output, or tells its refusal.
+fn hand_on(t: u8, frame: &[u8], out: &mut [u8]) -> Handed
+    requires { ⌜ Fits (now frame) (now out) ⌝ }
+    ensures { λ r. ⌜ HandsOn t (now (frame .entry)) r (now (out .exit)) ⌝ }
+{
     let lengths = [(frame.len() % 65536) as u16];
     match kiss_export::write(t, frame, &lengths, out) {
-        Exported::Length(n) => {
-            let rest = std::num::wrapping_sub_usize(n, 1);
-            written(name, octets::part(out, 1, rest))
+        Exported::Length(n) => Handed { to: n, refusal: 0 },
+        Exported::Refused(refusal) => Handed {
+            to: 0,
+            refusal: refusal.number,
+        },
+    }
+}
+
+// What a section leads to: t, how many frames have passed, the output's octets from an index up to another, which are to be written, a
+// frame's refusal or 0, and whether the run goes on.
+struct Led {
+    t: u8,
+    frames: u64,
+    from: usize,
+    to: usize,
+    refusal: u16,
+    going: bool,
+}
+
+// A section of the octets at hand that is whole: the first 0xC0 goes out with t, then each frame.
+fn section(taken: Taken, t: u8, frames: u64, hand: &[u8], out: &mut [u8]) -> Led
+    requires { ⌜ Sections taken (now hand) (now out) ⌝ }
+    ensures { λ r. ⌜ ledTo r (now (out .exit)) ≡ leads t frames taken (now (hand .entry)) ⌝ }
+{
+    let mut led = Led {
+        t,
+        frames,
+        from: 0,
+        to: 0,
+        refusal: 0,
+        going: true,
+    };
+    match taken {
+        Taken::Opened(n) => {
+            out[0] = kiss::MARK;
+            led.t = (n % 256) as u8;
+            led.to = 1;
         }
-        Exported::Refused(refusal) => {
-            left_out(name, number, refusal);
-            true
+        Taken::Here(from, to) => {
+            let n = to - from;
+            let handed = hand_on(t, octets::part(hand, from, n), out);
+            led.frames = std::num::wrapping_add_u64(frames, 1);
+            led.from = 1;
+            led.to = handed.to;
+            led.refusal = handed.refusal;
         }
+        Taken::Bad | Taken::Over => {
+            led.going = false;
+        }
+        Taken::Nothing | Taken::Missing(_) => {}
+    }
+    led
+}
+
+// One turn: what the section at hand leads to is written, or more is read; what is left out and why a recording is bad is told.
+fn turn(name: &[u8], source: i32, input: &mut [u8], out: &mut [u8], state: State) -> State
+    requires { ⌜ room ≤ length (now out) ⌝ }
+    ensures { λ r. ⌜ Turned state (now (input .entry)) r (now (input .exit)) (now (out .exit)) ⌝ }
+{
+    let at = state.at;
+    let end = state.end;
+    let reader = state.reader;
+    let scanned = reader.scan(window::hand(input, at, end));
+    let taken = scanned.taken;
+    if let Taken::Missing(_) = taken {
+        return more(name, source, input, state);
+    }
+    let from = at + scanned.used;
+    let passed = std::num::wrapping_add_u64(state.passed, scanned.used as u64);
+    if let Taken::Bad = taken {
+        faults::tell(
+            name,
+            passed,
+            Source::Recording(reader),
+            window::hand(input, from, end),
+        );
+    }
+    let led = section(
+        taken,
+        state.t,
+        state.frames,
+        window::hand(input, at, end),
+        out,
+    );
+    if led.refusal != 0 {
+        left_out(name, led.frames, led.refusal);
+    }
+    let well = written(name, window::hand(out, led.from, led.to));
+    let behind = scanned.reader;
+    State {
+        reader: behind,
+        t: led.t,
+        at: from,
+        end,
+        passed,
+        frames: led.frames,
+        from: led.from,
+        to: led.to,
+        going: led.going & well,
+        failed: !well,
     }
 }
 
 // Octets are missing: more are read, and if none come the run ends, which is told where the recording is cut.
-fn more(name: &[u8], source: i32, input: &mut [u8], state: State) -> State {
+fn more(name: &[u8], source: i32, input: &mut [u8], state: State) -> State
+    ensures { λ r. ⌜ Reads state (now (input .entry)) r (now (input .exit)) ⌝ }
+{
     let at = state.at;
     let end = state.end;
     let refilled = window::refill(name, source, input, at, end);
@@ -108,89 +225,9 @@ fn more(name: &[u8], source: i32, input: &mut [u8], state: State) -> State {
         end: refilled.have,
         passed,
         frames: state.frames,
+        from: 0,
+        to: 0,
         going: refilled.came != 0,
-    }
-}
-
-// What a section leads to: t, how many frames have passed, and whether the run goes on.
-struct Led {
-    t: u8,
-    frames: u64,
-    going: bool,
-}
-
-// A section of the octets at hand that is whole: the first 0xC0 goes out with t, then each frame.
-fn section(name: &[u8], taken: Taken, t: u8, frames: u64, hand: &[u8], out: &mut [u8]) -> Led {
-    match taken {
-        Taken::Opened(n) => {
-            let mark = [kiss::MARK];
-            let going = written(name, &mark);
-            Led {
-                t: (n % 256) as u8,
-                frames,
-                going,
-            }
-        }
-        Taken::Here(from, to) => {
-            let number = std::num::wrapping_add_u64(frames, 1);
-            let n = std::num::wrapping_sub_usize(to, from);
-            let going = hand_on(name, t, number, octets::part(hand, from, n), out);
-            Led {
-                t,
-                frames: number,
-                going,
-            }
-        }
-        Taken::Bad | Taken::Over => Led {
-            t,
-            frames,
-            going: false,
-        },
-        Taken::Nothing | Taken::Missing(_) => Led {
-            t,
-            frames,
-            going: true,
-        },
-    }
-}
-
-// One turn: the section at hand, or a further read; why a recording is bad is told.
-fn turn(name: &[u8], source: i32, input: &mut [u8], out: &mut [u8], state: State) -> State {
-    let at = state.at;
-    let end = state.end;
-    let reader = state.reader;
-    let scanned = reader.scan(window::hand(input, at, end));
-    let taken = scanned.taken;
-    if let Taken::Missing(_) = taken {
-        return more(name, source, input, state);
-    }
-    let used = scanned.used;
-    let from = std::num::wrapping_add_usize(at, used);
-    let passed = std::num::wrapping_add_u64(state.passed, used as u64);
-    if let Taken::Bad = taken {
-        faults::tell(
-            name,
-            passed,
-            Source::Recording(reader),
-            window::hand(input, from, end),
-        );
-    }
-    let led = section(
-        name,
-        taken,
-        state.t,
-        state.frames,
-        window::hand(input, at, end),
-        out,
-    );
-    let behind = scanned.reader;
-    State {
-        reader: behind,
-        t: led.t,
-        at: from,
-        end,
-        passed,
-        frames: led.frames,
-        going: led.going,
+        failed: false,
     }
 }

@@ -26,6 +26,10 @@ timeOf word = pick (not (eqb (length word) 1)) 9 (pick (ltb (at word 0) 48) 9 (p
 unfoldable pub wrongWords : List ℕ → List ℕ → Bool
 wrongWords kind word = not (eqb (length kind) 0) && (not (same kind kissWord || same kind bitsWord) || eqb (timeOf word) 9)
 
+-- The same of words as they were read: of a first word that is there, but empty or too long, nothing was read.
+unfoldable pub noneNamed : Bool → List ℕ → List ℕ → Bool
+noneNamed there kind word = (there && eqb (length kind) 0) || wrongWords kind word
+
 unfoldable pub receiverOf : List ℕ → List ℕ → Receiver
 receiverOf kind word =
     pick (same kind kissWord) (freshStream freshKiss (timeOf word)) (pick (same kind bitsWord) (freshStream freshBits (timeOf word)) fresh)

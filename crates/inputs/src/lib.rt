@@ -1,6 +1,6 @@
 // Which input a program's words name: a recording, or with --kiss T or --bits T a stream whose frames end with T octets of time.
 ghost use mathlib.Core.Path.{_≡_};
-ghost use Rattle.inputs.specs.Words.{timeOf, wrongWords, receiverOf};
+ghost use Rattle.inputs.specs.Words.{timeOf, wrongWords, noneNamed, receiverOf};
 use libc::STDERR_FILENO;
 use receiver::Receiver;
 
@@ -58,12 +58,21 @@ pub fn refused(name: &[u8], i: usize) -> bool {
     let mut word = [0u8; 2];
     let n = os::arg(i, &mut kind);
     let m = os::arg(std::num::wrapping_add_usize(i, 1), &mut word);
-    let unread = (n == 0) & (i < os::arg_count());
-    let wrong = unread | wrong(&kind[..n], &word[..m]);
-    if wrong {
+    let refused = none_named(i < os::arg_count(), &kind[..n], &word[..m]);
+    if refused {
         tell(name);
     }
-    wrong
+    refused
+}
+
+// Whether two words as they were read name no input: a first word that is there and of which nothing was read, as it is empty or too long,
+// names none.
+fn none_named(there: bool, kind: &[u8], word: &[u8]) -> bool
+    ensures { λ r. ⌜ r ≡ noneNamed there (now (kind .entry)) (now (word .entry)) ⌝ }
+{
+    let unread = there & (kind.len() == 0);
+    let wrong = wrong(kind, word);
+    unread | wrong
 }
 
 // The receiver of the input that the program's words from number i on name, if they are not refused.

@@ -1,1 +1,3 @@
 pub mod Packets
+pub mod Gathering
+pub mod Drawing

@@ -1,1 +1,3 @@
 pub mod Received
+pub mod Gathered
+pub mod Files

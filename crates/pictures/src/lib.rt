@@ -1,7 +1,13 @@
 // A picture of one image of a recording or a stream: every packet that is handed out is placed, what is refused is counted, and at the end both files are
 // written.
+ghost use mathlib.Core.Path.{_≡_};
+ghost use Rattle.session.specs.Lent.{lent, Enough};
+ghost use Rattle.image.specs.Line.{imageOf, Room};
+ghost use Rattle.pictures.specs.Gathered.{gathered, withAnswer, Heeds, Turned};
+ghost use Rattle.pictures.specs.Files.{Drawable, Drawn};
 use feed::Feed;
 use feed::Pull;
+use greymap::Lengths;
 use greymap::PictureWritten;
 use receiver::Receiver;
 use session::StepAnswer;
@@ -11,6 +17,13 @@ mod placing;
 
 // One more than the greatest number of a refusal.
 const NUMBERS: usize = 124;
+
+// Where a run stands: the feed and the receiver, and whether it goes on.
+struct State {
+    feed: Feed,
+    receiver: Receiver,
+    going: bool,
+}
 
 // Places every packet that a fresh receiver hands out of a descriptor, if it is a line of the image, and writes the image as a greymap to
 // the file grey and its line numbers to the file lines. What fails, and then what was refused, is told on standard error, behind the
@@ -94,42 +107,93 @@ fn turns(
     numbers: &mut [u32],
     frames: &mut [u64],
     packets: &mut [u64],
-    first: Receiver,
+    receiver: Receiver,
 ) {
     let mut kept = [0u8; KEPT];
     let mut octets = [0u8; 501];
     let mut lengths = [0u16; 16];
     let mut firsts = [0u32; 16];
-    let mut feed = Feed::fresh();
-    let mut receiver = first;
+    let feed = Feed::fresh();
+    let mut state = State {
+        feed,
+        receiver,
+        going: true,
+    };
     let mut left: u64 = 18446744073709551615;
     while left > 0 {
-        let pulled = feed.pull(
+        if !state.going {
+            return;
+        }
+        state = turn(
             name,
             descriptor,
             input,
-            receiver,
             &mut kept,
             &mut octets,
             &mut lengths,
             &mut firsts,
-        );
-        feed = pulled.feed;
-        receiver = pulled.receiver;
-        let pull = pulled.pull;
-        if !heed(
-            pull,
-            &octets,
-            &lengths,
             wanted,
             pixels,
             numbers,
             frames,
             packets,
-        ) {
-            return;
-        }
+            state,
+        );
         left -= 1;
+    }
+}
+
+// One turn: the next section of the octets at hand, or a further read.
+fn turn(
+    name: &[u8],
+    descriptor: i32,
+    input: &mut [u8],
+    kept: &mut [u8; KEPT],
+    octets: &mut [u8],
+    lengths: &mut [u16],
+    firsts: &mut [u32],
+    wanted: u16,
+    pixels: &mut [u8],
+    numbers: &mut [u32],
+    frames: &mut [u64],
+    packets: &mut [u64],
+    state: State,
+) -> State
+    requires { ⌜ Enough (lent (now octets) (now lengths) (now firsts)) ⌝ }
+    ensures { λ r. ⌜ Turned wanted state (now (input .entry)) (now (kept .entry)) (lent (now (octets .entry)) (now (lengths .entry)) (now (firsts .entry)))
+        (gathered (now (pixels .entry)) (now (numbers .entry)) (now (packets .entry)) (now (frames .entry))) r (now (input .exit)) (now (kept .exit))
+        (lent (now (octets .exit)) (now (lengths .exit)) (now (firsts .exit)))
+        (gathered (now (pixels .exit)) (now (numbers .exit)) (now (packets .exit)) (now (frames .exit))) ⌝ }
+{
+    let before = state.feed;
+    let first = state.receiver;
+    let pulled = before.pull(
+        name,
+        descriptor,
+        input,
+        first,
+        kept,
+        octets,
+        lengths,
+        firsts,
+    );
+    let feed = pulled.feed;
+    let receiver = pulled.receiver;
+    let pull = pulled.pull;
+    let going = heed(
+        pull,
+        octets,
+        lengths,
+        wanted,
+        pixels,
+        numbers,
+        frames,
+        packets,
+    );
+    State {
+        feed,
+        receiver,
+        going,
     }
 }
 
@@ -143,7 +207,11 @@ fn heed(
     numbers: &mut [u32],
     frames: &mut [u64],
     packets: &mut [u64],
-) -> bool {
+) -> bool
+    ensures { λ r. ⌜ Heeds wanted pull (now (octets .entry)) (now (lengths .entry))
+        (gathered (now (pixels .entry)) (now (numbers .entry)) (now (packets .entry)) (now (frames .entry))) r
+        (gathered (now (pixels .exit)) (now (numbers .exit)) (now (packets .exit)) (now (frames .exit))) ⌝ }
+{
     match pull {
         Pull::More | Pull::Opened => true,
         Pull::Answered(answer) => {
@@ -159,7 +227,7 @@ fn heed(
             );
             true
         }
-        _ => false,
+        Pull::Bad | Pull::End | Pull::Cut | Pull::Failed => false,
     }
 }
 
@@ -173,7 +241,10 @@ fn answered(
     numbers: &mut [u32],
     frames: &mut [u64],
     packets: &mut [u64],
-) {
+)
+    ensures { λ r. ⌜ gathered (now (pixels .exit)) (now (numbers .exit)) (now (packets .exit)) (now (frames .exit)) ≡ withAnswer wanted answer (now (octets .entry)) (now (lengths .entry))
+        (gathered (now (pixels .entry)) (now (numbers .entry)) (now (packets .entry)) (now (frames .entry))) ⌝ }
+{
     match answer {
         StepAnswer::Accepted(a) => {
             placing::place_all(
@@ -200,13 +271,24 @@ fn save(
     picture: i32,
     lines: &[u8],
     list: i32,
-) {
+)
+    requires { ⌜ Room (imageOf (now pixels) (now numbers)) ⌝ }
+{
     let mut out = empty();
     let mut text = [0u8; greymap::TEXT];
-    // Both outputs have room: nothing is refused.
-    if let PictureWritten::Lengths(l) = greymap::write(pixels, numbers, &mut out, &mut text) {
-        put(name, grey, picture, octets::part(&out, 0, l.grey));
-        put(name, lines, list, octets::part(&text, 0, l.text));
+    let drawn = draw(pixels, numbers, &mut out, &mut text);
+    put(name, grey, picture, octets::part(&out, 0, drawn.grey));
+    put(name, lines, list, octets::part(&text, 0, drawn.text));
+}
+
+// Leaves both files' octets at the start of two outputs, and answers how many there are. Both have room: nothing is refused.
+fn draw(pixels: &[u8], numbers: &[u32], out: &mut [u8], text: &mut [u8]) -> Lengths
+    requires { ⌜ Drawable (imageOf (now pixels) (now numbers)) (now out) (now text) ⌝ }
+    ensures { λ r. ⌜ Drawn (imageOf (now (pixels .entry)) (now (numbers .entry))) r (now (out .exit)) (now (text .exit)) ⌝ }
+{
+    match greymap::write(pixels, numbers, out, text) {
+        PictureWritten::Lengths(lengths) => lengths,
+        PictureWritten::Refused(_) => Lengths { grey: 0, text: 0 },
     }
 }
 

@@ -1,6 +1,6 @@
 // What is told on standard error, behind the program's name, and counts of what is refused, by its number.
 ghost use mathlib.Core.Path.{_≡_};
-ghost use Rattle.telling.specs.Counts.{counted};
+ghost use Rattle.telling.specs.Counts.{counted, nextOf};
 use libc::STDERR_FILENO;
 
 // Says a line.
@@ -38,13 +38,25 @@ fn refused(name: &[u8], count: u64, what: &[u8], number: u64) {
     io::write_all(STDERR_FILENO, b"\n");
 }
 
-// Says how many of what were refused, by the refusals' rising numbers.
-pub fn tell(name: &[u8], counts: &[u64], what: &[u8]) {
-    let mut i = 0;
+// The first number from one on of which there were any; if there is none, that behind the last.
+fn next(counts: &[u64], from: usize) -> usize
+    ensures { λ r. ⌜ r ≡ nextOf (now (counts .entry)) from ⌝ }
+{
+    let mut i = from;
     while i < counts.len() {
         if counts[i] != 0 {
-            refused(name, counts[i], what, i as u64);
+            return i;
         }
         i += 1;
+    }
+    i
+}
+
+// Says how many of what were refused, by the refusals' rising numbers.
+pub fn tell(name: &[u8], counts: &[u64], what: &[u8]) {
+    let mut i = next(counts, 0);
+    while i < counts.len() {
+        refused(name, counts[i], what, i as u64);
+        i = next(counts, i + 1);
     }
 }

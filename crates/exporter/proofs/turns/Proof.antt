@@ -1,7 +1,6 @@
--- `turns` is safe and ends.
+-- `exporter::turns` is safe and ends.
 use mathlib.Core.Path.{_≡_}
 use lib.ListN.{length}
-use native.Mathlib.Omega.{arith}
 use borrow.Author.Needs.{needs}
 use Rattle.exporter.proofs.turns.Statement.{statement}
 use Rattle.exporter.proofs.turns.Tie as tie
