@@ -1,0 +1,23 @@
+-- `counting::more` meets its contract.
+use denote.Ref.{now}
+use Rattle.tally.specs.Count.{tally}
+use Rattle.counting.proofs.Turning.{more-turned}
+use borrow.Author.Needs.{needs}
+use Rattle.counting.proofs.more.Statement.{statement}
+use Rattle.counting.proofs.more.Tie as tie
+
+returns : tie.Need-returns
+returns c =
+    let d = c .before .before .before .before .before .before in
+    let e = d .before .before .before .before .before .before .before .before in
+    let f = e .before .before in
+    let s = f .before .before .before .before .before .before .before in
+    let a = s .args in
+    more-turned (a .state) (now (a .input)) (tally (now (a .counts)) (now (a .keys)) (now (a .many))) (s .pre .0) (s .pre .1) (f .kept .ensures) (e .refill .ensures) (d .count-if .ensures)
+
+pub more-spec : {M : Type 1} → statement M
+more-spec =
+    tie.close
+    (tie.spec
+    (λ c κs. search needs) (λ c κs. search needs) (λ c κs. search needs) (λ c. search needs) (λ c. search needs)
+    (λ c. search needs) (λ c. search needs) returns)
