@@ -1,4 +1,5 @@
 // The layouts' file: read whole, and what is wrong with it told.
+ghost use Rattle.reporter.specs.Text.{Ends};
 use layouts::Fault;
 use libc::STDERR_FILENO;
 
@@ -19,7 +20,9 @@ pub(crate) fn load(name: &[u8], path: &[u8], text: &mut [u8]) -> usize {
 }
 
 // Ends the last line of the n octets at the start of text, where there is room for that.
-fn line_ended(text: &mut [u8], n: usize) -> usize {
+fn line_ended(text: &mut [u8], n: usize) -> usize
+    ensures { λ r. ⌜ Ends (now (text .entry)) n (now (text .exit)) r ⌝ }
+{
     if n == 0 {
         return 0;
     }

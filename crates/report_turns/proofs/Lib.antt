@@ -1,0 +1,2 @@
+pub mod Heeding
+pub mod Turning

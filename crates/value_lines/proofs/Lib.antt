@@ -1,0 +1,6 @@
+pub mod Adding
+pub mod Elements
+pub mod Leaving
+pub mod Lining
+pub mod Reporting
+pub mod Unique
