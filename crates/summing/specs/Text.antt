@@ -7,6 +7,7 @@ use Rattle.octets.specs.Numbers.{at}
 use Rattle.octets.specs.Pick.{pick}
 use Rattle.decimal.specs.Text.{decimalBelow}
 use Rattle.lines.specs.Text.{badRecording}
+use Rattle.tally.specs.Counters as place
 use Rattle.tally.specs.Count.{saturated}
 
 -- The decimal digits of a counter: twenty at most.
@@ -83,11 +84,13 @@ manyOf key (k ∷ keys) (n ∷ many) = pick (eqb k key && not (eqb n 0)) n (many
 
 -- The refusals of one kind, by their rising numbers: their counters stand from an index on.
 unfoldable pub refusals : List ℕ → ℕ → List ℕ → List ℕ
-refusals counts from words = each 65536 0 (λ (i : ℕ). refusalLine words i (at counts (from + i)))
+refusals counts from words = each place.refusalNumbers 0 (λ (i : ℕ). refusalLine words i (at counts (from + i)))
 
 -- The channels, by their rising numbers.
 unfoldable pub channels : List ℕ → List ℕ
-channels counts = each 256 0 (λ (i : ℕ). channelLine i (at counts (256 + i)) (at counts (512 + i)) (at counts (768 + i)))
+channels counts =
+    each place.channelNumbers 0
+    (λ (i : ℕ). channelLine i (at counts (place.channelFrames + i)) (at counts (place.channelLost + i)) (at counts (place.channelUnknown + i)))
 
 -- The packets of each key, by rising keys.
 unfoldable pub listed : List ℕ → List ℕ → List ℕ
@@ -100,10 +103,10 @@ ofFrames counts =
     (102 ∷ 114 ∷ 97 ∷ 109 ∷ 101 ∷ 115 ∷ 32 ∷ [])
     (58 ∷ 32 ∷ 97 ∷ 99 ∷ 99 ∷ 101 ∷ 112 ∷ 116 ∷ 101 ∷ 100 ∷ 32 ∷ [])
     (44 ∷ 32 ∷ 114 ∷ 101 ∷ 102 ∷ 117 ∷ 115 ∷ 101 ∷ 100 ∷ 32 ∷ [])
-    (at counts 2) (at counts 3)
-    ++ (refusals counts 1024 (114 ∷ 101 ∷ 102 ∷ 117 ∷ 115 ∷ 101 ∷ 100 ∷ 32 ∷ 119 ∷ 105 ∷ 116 ∷ 104 ∷ 32 ∷ [])
+    (at counts place.acceptedFrames) (at counts place.refusedFrames)
+    ++ (refusals counts place.refusedWith (114 ∷ 101 ∷ 102 ∷ 117 ∷ 115 ∷ 101 ∷ 100 ∷ 32 ∷ 119 ∷ 105 ∷ 116 ∷ 104 ∷ 32 ∷ [])
     ++ (channels counts
-    ++ overAllLine (at counts 2) (at counts 4) (at counts 5)))
+    ++ overAllLine (at counts place.acceptedFrames) (at counts place.lostFrames) (at counts place.unknownLosses)))
 
 -- What is told of packets: how many, by keys, those without a place, those turned away.
 unfoldable pub ofPackets : List ℕ → List ℕ → List ℕ → List ℕ
@@ -112,18 +115,18 @@ ofPackets counts keys many =
     (112 ∷ 97 ∷ 99 ∷ 107 ∷ 101 ∷ 116 ∷ 115 ∷ 32 ∷ [])
     (58 ∷ 32 ∷ 114 ∷ 101 ∷ 97 ∷ 100 ∷ 32 ∷ [])
     (44 ∷ 32 ∷ 116 ∷ 117 ∷ 114 ∷ 110 ∷ 101 ∷ 100 ∷ 32 ∷ 97 ∷ 119 ∷ 97 ∷ 121 ∷ 32 ∷ [])
-    (at counts 6) (at counts 7)
+    (at counts place.readPackets) (at counts place.awayPackets)
     ++ (listed keys many
-    ++ (countLine (111 ∷ 116 ∷ 104 ∷ 101 ∷ 114 ∷ 32 ∷ 112 ∷ 97 ∷ 99 ∷ 107 ∷ 101 ∷ 116 ∷ 115 ∷ 58 ∷ 32 ∷ []) (at counts 8)
-    ++ refusals counts 66560 (116 ∷ 117 ∷ 114 ∷ 110 ∷ 101 ∷ 100 ∷ 32 ∷ 97 ∷ 119 ∷ 97 ∷ 121 ∷ 32 ∷ 119 ∷ 105 ∷ 116 ∷ 104 ∷ 32 ∷ [])))
+    ++ (countLine (111 ∷ 116 ∷ 104 ∷ 101 ∷ 114 ∷ 32 ∷ 112 ∷ 97 ∷ 99 ∷ 107 ∷ 101 ∷ 116 ∷ 115 ∷ 58 ∷ 32 ∷ []) (at counts place.unlistedPackets)
+    ++ refusals counts place.awayWith (116 ∷ 117 ∷ 114 ∷ 110 ∷ 101 ∷ 100 ∷ 32 ∷ 97 ∷ 119 ∷ 97 ∷ 121 ∷ 32 ∷ 119 ∷ 105 ∷ 116 ∷ 104 ∷ 32 ∷ [])))
 
 -- What is told of other lines: how many, and whether the recording was bad.
 unfoldable pub ofOthers : List ℕ → List ℕ
 ofOthers counts =
     countLine
     (108 ∷ 105 ∷ 110 ∷ 101 ∷ 115 ∷ 32 ∷ 116 ∷ 104 ∷ 97 ∷ 116 ∷ 32 ∷ 97 ∷ 114 ∷ 101 ∷ 32 ∷ 110 ∷ 111 ∷ 110 ∷ 101 ∷ 32 ∷ 111 ∷ 102 ∷ 32 ∷ 97 ∷ 32 ∷ 108 ∷ 105 ∷ 115 ∷ 116 ∷ 105 ∷ 110 ∷ 103 ∷ 58 ∷ 32 ∷ [])
-    (at counts 0)
-    ++ ifAny (at counts 1) badRecording
+    (at counts place.others)
+    ++ ifAny (at counts place.bad) badRecording
 
 -- The whole summary.
 unfoldable pub summaryOf : List ℕ → List ℕ → List ℕ → List ℕ

@@ -9,6 +9,7 @@ use Rattle.octets.specs.Numbers.{at}
 use Rattle.octets.specs.Pick.{pick}
 use Rattle.counts.specs.declared.Loss.{Loss}
 use Rattle.counts.specs.declared.Loss.the-variants.{Unknown, Known}
+use Rattle.tally.specs.Counters as place
 use Rattle.tally.specs.declared.Tells.{Tells}
 use Rattle.tally.specs.declared.Tells.the-variants.{Header, Bad, Accepted, Refused, Packet, Away, Other}
 
@@ -31,7 +32,9 @@ lossAdded counts known unknown (Known n) = added counts known n
 -- An accepted frame: over all, by channel, its loss there, its loss over all.
 unfoldable pub accepted : List ℕ → ℕ → Loss → Loss → List ℕ
 accepted counts channel lost master =
-    lossAdded (lossAdded (added (added counts 2 1) (256 + channel) 1) (512 + channel) (768 + channel) lost) 4 5 master
+    lossAdded
+    (lossAdded (added (added counts place.acceptedFrames 1) (place.channelFrames + channel) 1) (place.channelLost + channel) (place.channelUnknown + channel) lost)
+    place.lostFrames place.unknownLosses master
 
 -- A refusal: over all, and by its number.
 abbrev pub ofNumber : List ℕ → ℕ → ℕ → ℕ → List ℕ
@@ -68,17 +71,17 @@ tally counts keys many = record { counts = counts; keys = keys; many = many }
 -- A packet that was read: over all, and by its key, or as one without a place.
 unfoldable pub packetCounted : ℕ → Tally → Tally
 packetCounted key t =
-    let all : List ℕ = added (t .counts) 6 1 in
+    let all : List ℕ = added (t .counts) place.readPackets 1 in
     pick (placed key (t .keys) (t .many))
     (tally all (set (t .keys) (placeOf key (t .keys) (t .many)) key) (added (t .many) (placeOf key (t .keys) (t .many)) 1))
-    (tally (added all 8 1) (t .keys) (t .many))
+    (tally (added all place.unlistedPackets 1) (t .keys) (t .many))
 
 -- What a line tells, counted.
 abbrev pub counted : Tells → Tally → Tally
 counted Header t = t
-counted Bad t = tally (added (t .counts) 1 1) (t .keys) (t .many)
+counted Bad t = tally (added (t .counts) place.bad 1) (t .keys) (t .many)
 counted (Accepted channel lost master) t = tally (accepted (t .counts) channel lost master) (t .keys) (t .many)
-counted (Refused n) t = tally (ofNumber (t .counts) 3 1024 n) (t .keys) (t .many)
+counted (Refused n) t = tally (ofNumber (t .counts) place.refusedFrames place.refusedWith n) (t .keys) (t .many)
 counted (Packet apid service subtype) t = packetCounted (keyOf apid service subtype) t
-counted (Away n) t = tally (ofNumber (t .counts) 7 66560 n) (t .keys) (t .many)
-counted Other t = tally (added (t .counts) 0 1) (t .keys) (t .many)
+counted (Away n) t = tally (ofNumber (t .counts) place.awayPackets place.awayWith n) (t .keys) (t .many)
+counted Other t = tally (added (t .counts) place.others 1) (t .keys) (t .many)

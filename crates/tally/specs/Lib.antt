@@ -1,3 +1,4 @@
 pub mod Back
+pub mod Counters
 pub mod Count
 pub mod Line
