@@ -2,16 +2,16 @@
 use Prim.Native.Nat.{ℕ, zero, suc, _+_, _-_, _≤_, _<_}
 use native.Mathlib.Omega.{arith}
 use mathlib.Core.Path.{_≡_, refl, sym, ap, subst, _∙_}
-use mathlib.Core.Bool.{Bool, true, false, true≢false, false≢true, not, _||_, _&&_}
+use mathlib.Core.Bool.{Bool, true, false, false≢true, not, _||_, _&&_}
 use mathlib.Core.List.{List, [], _∷_, _++_}
 use lib.Dec.{eqb, ltb}
 use lib.ListN.{length, take, drop, length-append, length-drop, take-append-drop}
-use lib.Seq.{drop-append-le, drop-drop, take-nil}
-use borrow.Author.Tests.{eqb-true, eqb-false, ne-eqb, eq-eqb, lt-ltb, le-ltb, ltb-true, ltb-false, not-true, not-false}
+use lib.Seq.{drop-append-le, drop-drop}
+use borrow.Author.Tests.{eqb-true, eqb-false, ltb-true, ltb-false, not-true, not-false}
 use Rattle.octets.specs.Parts.{part}
 use Rattle.octets.specs.Pick.{pick}
 use Rattle.octets.specs.Same.{same}
-use Rattle.octets.proofs.Choices.{picked, passed, not-picked}
+use Rattle.octets.proofs.Choices.{not-picked}
 use Rattle.octets.proofs.Tests.{or-left, or-right, and-true-left, and-true-right}
 use Rattle.decimal.specs.Text.{valueAfter}
 use Rattle.decimal.specs.Read.{largest, noDigit, digitsOf, numberOf, illWritten, endsOtherwise, numberWrong, readAt}
@@ -21,7 +21,7 @@ use Rattle.counts.specs.declared.Loss.{Loss}
 use Rattle.counts.specs.declared.Loss.the-variants.{Unknown, Known}
 use Rattle.lines.specs.Text.{header, badRecording}
 use Rattle.tally.specs.declared.Tells.{Tells}
-use Rattle.tally.specs.declared.Tells.the-variants.{Header, Bad, Accepted, Refused, Packet, Away, Other}
+use Rattle.tally.specs.declared.Tells.the-variants.{Header, Bad, Refused, Other}
 use Rattle.tally.specs.declared.LossRead.{LossRead}
 use Rattle.tally.specs.declared.LossRead.the-variants as loss
 use Rattle.tally.specs.declared.PairRead.{PairRead}

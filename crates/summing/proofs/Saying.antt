@@ -6,7 +6,7 @@ use native.Mathlib.Omega.{arith}
 use mathlib.Core.Path.{_≡_, refl, sym, ap, _∙_}
 use mathlib.Core.Bool.{Bool, true, false}
 use mathlib.Core.List.{List, [], _∷_, _++_}
-use lib.Dec.{ltb, eqb}
+use lib.Dec.{ltb}
 use lib.ListN.{length, getD, set, take}
 use lib.Seq.{take-suc, take-all}
 use borrow.Author.Tests.{lt-ltb, le-ltb, ltb-false, eq-eqb, ne-eqb}
@@ -25,10 +25,6 @@ past-end (x ∷ s) zero h = absurd (omega arith)
 past-end (x ∷ s) (suc i) h = past-end s i (omega arith)
 
 -- ---- an octet
-
-one-said : (c : ℕ) {p q : Page} → q ≡ octet c p → Says (c ∷ []) p q
-unfolding said
-one-said c e = record { leaves = e }
 
 module _ (c : ℕ) (out : List ℕ) (pen : Pen) where
   pub skipped : 0 < pen .skip → Says (c ∷ []) (page out pen) (page out (record { skip = pen .skip - 1; at = pen .at }))

@@ -4,10 +4,10 @@ use native.Mathlib.Omega.{arith}
 use mathlib.Core.Path.{_≡_, refl, sym, ap, subst, _∙_}
 use mathlib.Core.List.{List, [], _∷_, _++_, append-assoc}
 use lib.ListN.{length, take, drop, set, length-append}
-use lib.Seq.{take-nil, drop-nil, set-at, append-snoc}
+use lib.Seq.{take-nil, drop-nil, set-at}
 use Rattle.octets.specs.Parts.{written}
 use Rattle.summing.specs.declared.pen.Pen.{Pen}
-use Rattle.summing.specs.Page.{Shows, Page, page, octet, said, Says}
+use Rattle.summing.specs.Page.{Shows, Page, page, said, Says}
 use Rattle.summing.proofs.Saying as saying
 
 abbrev pen : ℕ → ℕ → Pen

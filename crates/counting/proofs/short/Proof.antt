@@ -1,7 +1,6 @@
 -- `counting::short` meets its contract.
 use Rattle.octets.proofs.Choices.{picked, passed}
 use Rattle.octets.proofs.Tests.{tests}
-use borrow.Author.Needs.{needs}
 use Rattle.counting.proofs.short.Statement.{statement}
 use Rattle.counting.proofs.short.Tie as tie
 
