@@ -10,6 +10,7 @@ pub mod Projection
 pub mod Recording
 pub mod NothingLost
 pub mod Masters
+pub mod Refused
 pub mod Corners
 pub mod Shams
 pub mod Lending

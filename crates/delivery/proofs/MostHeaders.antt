@@ -12,7 +12,6 @@ use Rattle.session.specs.Open.{opened}
 use Rattle.sender.specs.Stream.{next}
 use Rattle.sender.specs.Sender.{Framed, AllWellFormed, Stream, Sender}
 use Rattle.delivery.specs.Link.{Fate, Passing, arrives, arriving, fates}
-use Rattle.delivery.specs.Expected.{expectedLosses, AtMost, mostLost}
 use Rattle.delivery.specs.Delivered.{Report}
 use Rattle.delivery.specs.Run.{Call}
 use Rattle.delivery.specs.Demand.{Reception}
@@ -48,12 +47,8 @@ sender = record { wellFormed = sent-formed; master = 7; small = lit< tt; masters
 abbrev one : List Passing
 one = arrives ∷ []
 
-gaps : (v : ℕ) → v < 8 → AtMost mostLost (expectedLosses (fates v 0 one sent))
-gaps zero l = (lit≤ tt, tt)
-gaps (suc v) l = subst (λ (ss : List Fate). AtMost mostLost (expectedLosses ss)) (sym (no-fates v 0 one 7 sentPieces)) tt
-
 abbrev reception : Reception
-reception = receiving sent sender one gaps (lit≤ tt)
+reception = receiving sent sender one tt (lit≤ tt)
 
 abbrev calls : List Call
 calls = callsOf (opened 2 0) (arriving 2 both torn)
@@ -72,6 +67,6 @@ most-headers = record {
   room = calls-room (opened 2 0) (arriving 2 both torn);
   seventeen =
       ap headersOf
-      (frames-said 2 0 0 (lit≤ tt) (lit< tt) begun opens calls (calls-run (opened 2 0) (arriving 2 both torn)) (calls-room (opened 2 0) (arriving 2 both torn)) both torn
+      (frames-said 2 0 0 (lit≤ tt) (lit< tt) begun opens calls (calls-run (opened 2 0) (arriving 2 both torn)) (calls-room (opened 2 0) (arriving 2 both torn)) both tt torn
       torn-formed (calls-offer (opened 2 0) (arriving 2 both torn)) (lit≤ tt));
 }

@@ -1,15 +1,13 @@
--- What refusals tell and leave, and that no session that opening and steps give gets refusal 4.
+-- What refusals tell and leave.
 use Prim.Native.Nat.{ℕ, _<_}
 use mathlib.Core.Path.{_≡_}
-use mathlib.Core.List.{List, [], _∷_}
 use mathlib.Core.Bool.{false}
-use Rattle.answer.specs.Refusals as no
 use Rattle.counts.specs.declared.Loss.the-variants.{Known}
 use Rattle.frame.specs.Limits.{longestTime}
 use Rattle.stretch.specs.Stretch.{Stretch, found, unread}
 use Rattle.session.specs.Lent.{Lent}
 use Rattle.session.specs.Open.{opening}
-use Rattle.session.specs.Step.{told, Outcome, barred, outcome, turnedAway}
+use Rattle.session.specs.Step.{told, Outcome, outcome, turnedAway}
 use Rattle.session.specs.declared.Session.{Session}
 use Rattle.session.specs.declared.Accepted.{Accepted}
 use Rattle.session.specs.declared.StepAnswer.{StepAnswer}
@@ -34,21 +32,3 @@ RefusedFresh = (t last : ℕ) → longestTime < t → opening t last .session �
 abbrev pub offered : Session → Stretch → Lent → Outcome
 offered s (found x) l = outcome s x l
 offered s (unread n) l = turnedAway s n l
-
-pub record Offer : Type 0 where
-  pub stretch : Stretch
-  pub lent : Lent
-
--- The session after a list of offers.
-abbrev pub after : Session → List Offer → Session
-after s [] = s
-after s (o ∷ os) = after (offered s (o .stretch) (o .lent) .session) os
-
--- Whatever t and last number it was opened with, a refused opening's too, and whatever was offered and lent: refusal 4 bars nothing,
--- and no next step answers 4.
-pub record Never4 (s : Session) : Type 0 where
-  pub bars : (l : Lent) → barred s l ≡ no.session → ⊥
-  pub answers : (x : List ℕ) (l : Lent) → outcome s x l .answer .refusal ≡ no.session → ⊥
-
-abbrev pub StaysSound : Type 0
-StaysSound = (t last : ℕ) (offers : List Offer) → Never4 (after (opening t last .session) offers)
