@@ -112,16 +112,16 @@ module _ (s : Session) (f : Framed) where
       ∙ ap (heeded (counted s) x) r
       ∙ ap (accepted (counted s) (f .fields)) d
 
--- ---- a call with a stretch that was refused before any frame could be read
+-- ---- a call with a stretch that is none of the sender's
 
 record Turned (s : Session) (c : Call) (cs : List Call) : Type 0 where
   says : masterLosses (c ∷ cs) ≡ masterLosses cs
   sound : unsound (counted s) ≡ false
   runs : Runs (counted s) cs
 
-turned-by : (s : Session) (c : Call) (cs : List Call) (x : Stretch) (n octet : ℕ) → c .offer ≡ x → unsound s ≡ false → Runs s (c ∷ cs) → Room (c ∷ cs)
-    → offered s x (c .lent) ≡ refusedAt (counted s) n octet → Turned s c cs
-turned-by s c cs x n octet e u w k i =
+turned-by : (s : Session) (c : Call) (cs : List Call) (x : Stretch) (n octet : ℕ) → c .offer ≡ x → unsound s ≡ false
+    → Runs s (c ∷ cs) → offered s x (c .lent) ≡ refusedAt (counted s) n octet → Turned s c cs
+turned-by s c cs x n octet e u w i =
     let o : Outcome = refusedAt (counted s) n octet in
     let is : offered s (c .offer) (c .lent) ≡ o = ap (λ (y : Stretch). offered s y (c .lent)) e ∙ i in
     let gives : Gives o (c .result) (c .lent) (c .left) = subst (λ (z : Outcome). Gives z (c .result) (c .lent) (c .left)) is (w .0) in
@@ -131,16 +131,20 @@ turned-by s c cs x n octet e u w k i =
       runs = subst (λ (z : Session). Runs z cs) (gives .session) (w .1);
     }
 
-turned : (t : ℕ) (s : Session) (c : Call) (cs : List Call) (x : Stretch) → Stray t x → s .t ≡ t → c .offer ≡ x → unsound s ≡ false → Runs s (c ∷ cs) → Room (c ∷ cs)
-    → s .arrival < lastNumber → Turned s c cs
-unfolding turnedAway outcome
-turned t s c cs (unread n) st q e u w k l =
-    turned-by s c cs (unread n) n 0 e u w k
-    (roomy s (c .lent) _ (k .0) u ∙ sym (passed (eqb (s .arrival) lastNumber) _ _ _ (ne-eqb (s .arrival) lastNumber (λ z. omega arith)) refl))
-turned t s c cs (found x) st q e u w k l =
-    turned-by s c cs (found x) (readFrame (s .t) x .refusal) (readFrame (s .t) x .octet) e u w k
-    (roomy s (c .lent) _ (k .0) u ∙ sym (passed (eqb (s .arrival) lastNumber) _ _ _ (ne-eqb (s .arrival) lastNumber (λ z. omega arith)) refl)
-    ∙ sym (passed (readFrame (s .t) x .accepted) _ _ _ (ap (λ (j : ℕ). readFrame j x .accepted) q ∙ st) refl))
+module _ (s : Session) (c : Call) (cs : List Call) (u : unsound s ≡ false) (w : Runs s (c ∷ cs)) (k : Room (c ∷ cs))
+  (l : s .arrival < lastNumber) where
+  more : eqb (s .arrival) lastNumber ≡ false
+  more = ne-eqb (s .arrival) lastNumber (λ z. omega arith)
+
+  turned : (t : ℕ) (x : Stretch) → Stray t x → s .t ≡ t → c .offer ≡ x → Turned s c cs
+  unfolding turnedAway outcome
+  turned t (unread n) st q e =
+      turned-by s c cs (unread n) n 0 e u w (roomy s (c .lent) _ (k .0) u ∙ sym (passed (eqb (s .arrival) lastNumber) _ _ _ more refl))
+  turned t (found x) st q e =
+      let refused : readFrame (s .t) x .accepted ≡ false = ap (λ (j : ℕ). readFrame j x .accepted) q ∙ st in
+      turned-by s c cs (found x) (readFrame (s .t) x .refusal) (readFrame (s .t) x .octet) e u w
+      (roomy s (c .lent) _ (k .0) u ∙ sym (passed (eqb (s .arrival) lastNumber) _ _ _ more refl)
+      ∙ sym (passed (readFrame (s .t) x .accepted) _ _ _ refused refl))
 
 -- ---- the whole run
 
@@ -162,10 +166,10 @@ module _ (t : ℕ) where
   masters [] (loses ∷ link) calls s d m r e w k x g h l n q st = masters [] link calls s d m r e w k x g h l n q st
   masters fs (noise z ∷ link) [] s d m r e w k x g h l n q st = absurd (nil-cons x)
   masters [] (noise z ∷ link) (c ∷ cs) s d m r e w k x g h l n q st =
-      let y : Turned s c cs = turned t s c cs z (st .0) e (offer-here c cs x) r w k (omega arith) in
+      let y : Turned s c cs = turned s c cs r w k (omega arith) t z (st .0) e (offer-here c cs x) in
       y .says ∙ masters [] link cs (counted s) d m (y .sound) e (y .runs) (k .1) (offers-rest c cs x) g h l (omega arith) q (st .1)
   masters (f ∷ fs) (noise z ∷ link) (c ∷ cs) s d m r e w k x g h l n q st =
-      let y : Turned s c cs = turned t s c cs z (st .0) e (offer-here c cs x) r w k (omega arith) in
+      let y : Turned s c cs = turned s c cs r w k (omega arith) t z (st .0) e (offer-here c cs x) in
       y .says ∙ masters (f ∷ fs) link cs (counted s) d m (y .sound) e (y .runs) (k .1) (offers-rest c cs x) g h l (omega arith) q (st .1)
   masters (f ∷ fs) [] [] s d m r e w k x g h l n q st = ap (map modulo256) (sym (none-arrive (s .arrival) d (f ∷ fs)))
   masters (f ∷ fs) [] (c ∷ cs) s d m r e w k x g h l n q st = absurd (nil-cons (sym x))
@@ -192,7 +196,8 @@ module _ (t : ℕ) where
       let ih : masterLosses cs ≡ map modulo256 (lossesAfter (some 0) (allFates (o .session .arrival) link fs)) =
       masters fs link cs (o .session) (some 0) (nextCount m)
       (subst (λ (z : Outcome). unsound (z .session) ≡ false) is (offer-stays s (c .offer) (c .lent) r .sound))
-      (taken-time s f ∙ e) (subst (λ (z : Session). Runs z cs) (gives .session) (w .1)) (k .1) rest (g .1) (h .1) (omega arith) (omega arith) follows st in
+      (taken-time s f ∙ e) (subst (λ (z : Session). Runs z cs) (gives .session) (w .1)) (k .1) rest (g .1) (h .1) (omega arith)
+      (omega arith) follows st in
       ap (λ (a : Told Accepted). told a ++ masterLosses cs) (gives .answers)
       ∙ ap (λ (a : List LostAt). a ++ masterLosses cs) (taken-told s f)
       ∙ ap (λ (j : Loss). lostAt (s .arrival + 1) j ∷ masterLosses cs) same

@@ -90,17 +90,22 @@ module _ (t : ℕ) where
   stray-none v a (found x) e = rw e
   stray-none v a (unread n) e = refl
 
-  offers-fates : (v last : ℕ) (link : List Passing) (fs : List Framed) → Strays t link → AllWellFormed t fs → last + length (arriving t link fs) ≤ lastNumber
-      → offersOf t v last (arriving t link fs) ≡ offered (fates v last link fs)
+  stray-passes : (v last : ℕ) (x : Stretch) (xs : List Stretch) → Stray t x → last < lastNumber
+      → offersOf t v last (x ∷ xs) ≡ offersOf t v (last + 1) xs
+  stray-passes v last x xs st k =
+      numbered t v last x xs (ne-eqb last lastNumber (λ e. omega arith))
+      ∙ ap (λ (l : List Offer). l ++ offersOf t v (last + 1) xs) (stray-none v (last + 1) x st)
+
+  offers-fates : (v last : ℕ) (link : List Passing) (fs : List Framed) → Strays t link → AllWellFormed t fs
+      → last + length (arriving t link fs) ≤ lastNumber → offersOf t v last (arriving t link fs) ≡ offered (fates v last link fs)
   offers-fates v last [] [] st w n = refl
   offers-fates v last [] (f ∷ fs) st w n =
       offers-fates v last [] fs st (w .1) n ∙ sym (offered-lost (ofChannel v f) (pieceOf f) (fates v last [] fs))
-  offers-fates v last (noise m ∷ link) [] st w n =
-      numbered t v last m (arriving t link []) (ne-eqb last lastNumber (λ e. omega arith))
-      ∙ ap (λ (l : List Offer). l ++ offersOf t v (last + 1) (arriving t link [])) (stray-none v (last + 1) m (st .0)) ∙ offers-fates v (last + 1) link [] (st .1) w (omega arith)
-  offers-fates v last (noise m ∷ link) (f ∷ fs) st w n =
-      numbered t v last m (arriving t link (f ∷ fs)) (ne-eqb last lastNumber (λ e. omega arith))
-      ∙ ap (λ (l : List Offer). l ++ offersOf t v (last + 1) (arriving t link (f ∷ fs))) (stray-none v (last + 1) m (st .0)) ∙ offers-fates v (last + 1) link (f ∷ fs) (st .1) w (omega arith)
+  offers-fates v last (noise x ∷ link) [] st w n =
+      stray-passes v last x (arriving t link []) (st .0) (omega arith) ∙ offers-fates v (last + 1) link [] (st .1) w (omega arith)
+  offers-fates v last (noise x ∷ link) (f ∷ fs) st w n =
+      stray-passes v last x (arriving t link (f ∷ fs)) (st .0) (omega arith)
+      ∙ offers-fates v (last + 1) link (f ∷ fs) (st .1) w (omega arith)
   offers-fates v last (arrives ∷ link) [] st w n = offers-fates v last link [] st w n
   offers-fates v last (loses ∷ link) [] st w n = offers-fates v last link [] st w n
   offers-fates v last (loses ∷ link) (f ∷ fs) st w n =

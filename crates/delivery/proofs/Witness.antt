@@ -107,11 +107,12 @@ module _ (frames : List Framed) (sender : Sender 2 frames) (link : List Passing)
 abbrev reception : Reception
 reception = receiving recording sender losing strays (lit≤ tt)
 
--- a frame of the sender's has no refusal of its own
 both : {m n : ℕ} {ms ns : List ℕ} → m ≡ n → ms ≡ ns → m ∷ ms ≡ n ∷ ns
 both e es = cc
 
-unrefused : (f : Framed) → fieldsWrong (f .fields) 2 (length (f .«data»)) (length (f .time)) ≡ false → readFrame 2 (sentOctets 2 f) .refusal ≡ 0
+-- a frame of the sender's has no refusal of its own
+unrefused : (f : Framed) → fieldsWrong (f .fields) 2 (length (f .«data»)) (length (f .time)) ≡ false
+    → readFrame 2 (sentOctets 2 f) .refusal ≡ 0
 unrefused f w = ap (λ (r : Told Frame). r .refusal) (reads-back (f .fields) 2 (f .«data») (f .time) w .fields)
 
 all-own : map (ownRefusal 2) (arriving 2 losing recording) ≡ 0 ∷ 0 ∷ 17 ∷ 0 ∷ 11 ∷ 0 ∷ 0 ∷ 0 ∷ []

@@ -66,7 +66,8 @@ EachFew [] = Unit {0}
 EachFew (r ∷ rs) = (r .headers ≤ mostSent) × EachFew rs
 
 abbrev pub FewSent : Type 0
-FewSent = (r : Reception) (v : ℕ) → v < virtualChannels → FewLost (fates v (r .last) (r .link) (r .frames)) → EachFew (reportsOf v (r .calls))
+FewSent = (r : Reception) (v : ℕ) → v < virtualChannels → FewLost (fates v (r .last) (r .link) (r .frames))
+    → EachFew (reportsOf v (r .calls))
 
 -- The master losses that the run told, each with its arrival number.
 abbrev pub masterLosses : List Call → List LostAt

@@ -14,7 +14,7 @@ use Rattle.rules.specs.Limits.{lastNumber}
 use Rattle.rules.specs.Channel.{Handed}
 use Rattle.session.specs.Channel.{unsound}
 use Rattle.session.specs.Lent.{Lent, lent, scant, laid}
-use Rattle.session.specs.Step.{told, Outcome, refused, refusedAt, counted, accepted, heeded, barred, admitted, outcome, turnedAway, Gives}
+use Rattle.session.specs.Step.{told, Outcome, counted, accepted, heeded, barred, admitted, outcome, turnedAway, Gives}
 use Rattle.session.specs.Statements.{nothingTakenUp, renumbered, RefusalLeaves, Always}
 use Rattle.session.specs.declared.Accepted.{Accepted}
 use Rattle.session.specs.declared.Session.{Session}
@@ -67,15 +67,16 @@ record Leaves (s : Session) (o : Outcome) : Type 0 where
 abbrev IfRefused : Session → Outcome → Type 0
 IfRefused s o = o .answer .accepted ≡ false → Leaves s o
 
--- a refusal of what was taken up
-taken-leaves : (s : Session) (n octet : ℕ) → nothingTakenUp n ≡ false → Leaves s (refusedAt (counted s) n octet)
-taken-leaves s n octet b = record { handed = refl; counted = refl; same = λ h. absurd (true≢false (sym h ∙ b)); next = λ h. refl }
-
 heeded-leaves : (s : Session) (x : List ℕ) → IfRefused s (heeded (counted s) x (readFrame (s .t) x))
 unfolding accepted
 heeded-leaves s x =
-    picks (IfRefused s) (readFrame (s .t) x .accepted) (accepted (counted s) _ _) _ (λ a h. absurd (true≢false h))
-    (λ a h. taken-leaves s _ _ (read-others (s .t) x a))
+    picks (IfRefused s) (readFrame (s .t) x .accepted) _ _ (λ a h. absurd (true≢false h))
+    (λ a h. record {
+      handed = refl;
+      counted = refl;
+      same = λ b. absurd (true≢false (sym b ∙ read-others (s .t) x a));
+      next = λ b. refl;
+    })
 
 admitted-leaves : (s : Session) (l : Lent) (o : Outcome) → IfRefused s o → IfRefused s (admitted s l o)
 admitted-leaves s l o p =
@@ -93,11 +94,13 @@ step-leaves-so s x l = admitted-leaves s l _ (heeded-leaves s x)
 
 turn-leaves-so : (s : Session) (n : ℕ) (l : Lent) → nothingTakenUp n ≡ false → IfRefused s (turnedAway s n l)
 unfolding turnedAway
-turn-leaves-so s n l b = admitted-leaves s l (refused (counted s) n) (λ h. taken-leaves s n 0 b)
+turn-leaves-so s n l b =
+    admitted-leaves s l _
+    (λ h. record { handed = refl; counted = refl; same = λ c. absurd (true≢false (sym c ∙ b)); next = λ c. refl })
 
 turn-refused : (s : Session) (n : ℕ) (l : Lent) → turnedAway s n l .answer .accepted ≡ false
 unfolding turnedAway
-turn-refused s n l = picks (λ (o : Outcome). o .answer .accepted ≡ false) (eqb (barred s l) 0) (refused (counted s) n) _ (λ e. refl) (λ e. refl)
+turn-refused s n l = picks (λ (o : Outcome). o .answer .accepted ≡ false) _ _ _ (λ e. refl) (λ e. refl)
 
 -- what is given
 given : (s : Session) (o : Outcome) (r : Stepped) (l l′ : Lent) → Gives o r l l′ → Leaves s o → RefusalLeaves s l r l′

@@ -83,7 +83,8 @@ opened-sound t last l = simp (le-ltb _ _ l, fresh-passes)
 pub opening-sound : (t last : ℕ) → unsound (opening t last .session) ≡ false
 unfolding opening
 opening-sound t last =
-    picks (λ (o : Opening). unsound (o .session) ≡ false) (ltb 8 t) _ _ (λ e. opened-sound 0 0 (omega arith)) (λ e. opened-sound t last (ltb-false _ _ e))
+    picks (λ (o : Opening). unsound (o .session) ≡ false) _ _ _ (λ e. opened-sound 0 0 (omega arith))
+    (λ e. opened-sound t last (ltb-false _ _ e))
 
 -- ---- a step
 
