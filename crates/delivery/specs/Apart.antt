@@ -21,9 +21,10 @@ abbrev pub inTurn : ℕ → List (ℕ × Piece) → List Framed
 inTurn master [] = []
 inTurn master (x ∷ xs) = framed (x .0) master (x .1) ∷ inTurn (nextCount master) xs
 
-abbrev pub of : ℕ → List Piece → List (ℕ × Piece)
-of v ps = map (λ (p : Piece). (v, p)) ps
+abbrev pub onChannel : ℕ → List Piece → List (ℕ × Piece)
+onChannel v ps = map (λ (p : Piece). (v, p)) ps
 
+-- Of channel 0, two packets in three frames.
 abbrev pub zeroChoices : List Choice
 zeroChoices = next 10 ∷ next 30 ∷ next 6 ∷ []
 
@@ -34,9 +35,9 @@ zeros = framesBy two 0 254 zeroChoices
 abbrev pub fives : List Piece
 fives = framesBy two 0 3 (manyEmpty 256)
 
--- All of channel 5 stands between the first frame of channel 0 and the second.
+-- All frames of channel 5 stand between the first frame of channel 0 and the second.
 abbrev pub order : List (ℕ × Piece)
-order = of 0 (take 1 zeros) ++ of 5 fives ++ of 0 (drop 1 zeros)
+order = onChannel 0 (take 1 zeros) ++ onChannel 5 fives ++ onChannel 0 (drop 1 zeros)
 
 abbrev pub recording : List Framed
 recording = inTurn 7 order
