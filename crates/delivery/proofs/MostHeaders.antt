@@ -6,14 +6,13 @@ use lib.Dec.{lit≤, lit<}
 use Rattle.counts.specs.Lost.{lostSince}
 use Rattle.frame.specs.Frame.{pointerWrong}
 use Rattle.frame.specs.Write.{fieldsWrong}
-use Rattle.rules.specs.Channel.{Piece, standing, push, placeAfter, lengthHolds, enter, follow, step}
+use Rattle.rules.specs.Channel.{standing, push, placeAfter, lengthHolds, enter, follow, step}
 use Rattle.rules.specs.Packets.{AllGood}
 use Rattle.session.specs.Open.{opened}
 use Rattle.stretch.specs.Stretch.{Stretch}
 use Rattle.sender.specs.Stream.{next}
 use Rattle.sender.specs.Sender.{Framed, AllWellFormed, Stream, Sender}
 use Rattle.delivery.specs.Link.{Passing, arrives, arriving}
-use Rattle.delivery.specs.Delivered.{Report}
 use Rattle.delivery.specs.Run.{Call, Runs, Room}
 use Rattle.delivery.specs.Demand.{Reception}
 use Rattle.delivery.specs.MostLost.{alone}

@@ -1,5 +1,5 @@
 -- A channel may lose 255 frames between two arrivals.
-use mathlib.Core.Path.{_≡_, refl, sym, ap, subst}
+use mathlib.Core.Path.{_≡_, refl, ap}
 use mathlib.Core.List.{List, [], _∷_}
 use mathlib.Core.Bool.{Bool, true, false, not, _&&_}
 use Prim.Native.Nat.{ℕ, zero, suc, _+_, _<_}
@@ -13,7 +13,7 @@ use Rattle.frame.specs.Write.{fieldsWrong}
 use Rattle.rules.specs.Channel.{Piece}
 use Rattle.sender.specs.Sender.{Framed, AllWellFormed, Mastered, piecesOf, Stream, Sender}
 use Rattle.sender.specs.Stream.{nextCount}
-use Rattle.delivery.specs.Link.{Fate, Passing, arrives, loses, noise, fates}
+use Rattle.delivery.specs.Link.{Passing, arrives, loses, noise, fates}
 use Rattle.delivery.specs.Demand.{Reception}
 use Rattle.delivery.specs.Corners.{two, manyEmpty}
 use Rattle.delivery.specs.MostLost.{alone, pieces, recording, losing, MostLost}

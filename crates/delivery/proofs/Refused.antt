@@ -26,7 +26,7 @@ use Rattle.session.proofs.Admitting.{admitted-picks, not-four, roomy}
 use Rattle.session.proofs.Staying.{opened-sound, opening-sound, sound-answers, offer-stays}
 use Rattle.stretch.specs.Stretch.{Stretch, found, unread}
 use Rattle.sender.specs.Sender.{Framed, pieceOf}
-use Rattle.delivery.specs.Link.{Passing, arrives, loses, noise, kept, allFates}
+use Rattle.delivery.specs.Link.{arrives, loses, noise, allFates}
 use Rattle.delivery.specs.Channels as channels
 use Rattle.delivery.specs.Run.{Call, Runs, Room, offerOf}
 use Rattle.delivery.specs.Further.{KeptAreGot, refusalOf, ownRefusal, RefusalsTold, NoneGets4, StaysSound}

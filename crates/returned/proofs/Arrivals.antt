@@ -19,7 +19,7 @@ use Rattle.sender.specs.Frames.{framedFrom}
 use Rattle.sender.specs.Calls.{taken}
 use Rattle.sender.specs.declared.Common.{Common}
 use Rattle.sender.proofs.Joining.{heads-length}
-use Rattle.delivery.specs.Link.{Fate, lost, got, Passing, Strays, arrives, arriving, fates}
+use Rattle.delivery.specs.Link.{Fate, got, Passing, Strays, arrives, fates}
 use Rattle.delivery.specs.Expected.{piece, allGot, arrivalOf, nowhere, carries, owners, arrived, expectedFrom}
 use Rattle.delivery.proofs.Facts.{nil-cons, drop-suc, drop-get}
 use Rattle.delivery.proofs.NothingLost.{got-take, got-drop}
