@@ -10,9 +10,11 @@ pub mod Projection
 pub mod Recording
 pub mod NothingLost
 pub mod Masters
+pub mod Refused
 pub mod Corners
 pub mod Shams
 pub mod Lending
 pub mod Witness
 pub mod MostLost
 pub mod MostHeaders
+pub mod Apart

@@ -25,14 +25,14 @@ use Rattle.session.specs.Channel.{unsound}
 use Rattle.session.specs.Open.{opened}
 use Rattle.session.specs.declared.Accepted.{Accepted}
 use Rattle.session.specs.Lent.{Lent, Enough}
-use Rattle.session.specs.Step.{Outcome, refused, counted, accepted, heeded, outcome, turnedAway, Gives}
+use Rattle.session.specs.Step.{Outcome, refusedAt, refused, counted, accepted, heeded, outcome, turnedAway, Gives}
 use Rattle.stretch.specs.Stretch.{Stretch, found, unread}
 use Rattle.session.specs.Statements.{offered}
 use Rattle.session.proofs.Admitting.{roomy}
 use Rattle.session.proofs.Staying.{opened-sound, counted-sound, offer-stays}
 use Rattle.sender.specs.Stream.{nextCount}
 use Rattle.sender.specs.Sender.{Framed, sentOctets, AllWellFormed, Mastered, when}
-use Rattle.delivery.specs.Link.{Passing, arrives, loses, noise, arriving, allFates}
+use Rattle.delivery.specs.Link.{Passing, Stray, Strays, arrives, loses, noise, arriving, allFates}
 use Rattle.delivery.specs.Expected.{LostAt, lostAt, oneMore, toldAs, lossesAfter, expectedLosses, AtMost, mostLost}
 use Rattle.delivery.specs.Run.{Call, Runs, Room, offerOf}
 use Rattle.delivery.specs.Further.{masterLosses, lossModulo256, modulo256, MasterLoss, MasterLossExact}
@@ -112,27 +112,39 @@ module _ (s : Session) (f : Framed) where
       ∙ ap (heeded (counted s) x) r
       ∙ ap (accepted (counted s) (f .fields)) d
 
--- ---- a call with a stretch that was refused before any frame could be read
+-- ---- a call with a stretch that is none of the sender's
 
-record Turned (s : Session) (c : Call) (cs : List Call) (n : ℕ) : Type 0 where
+record Turned (s : Session) (c : Call) (cs : List Call) : Type 0 where
   says : masterLosses (c ∷ cs) ≡ masterLosses cs
   sound : unsound (counted s) ≡ false
   runs : Runs (counted s) cs
 
-turned : (s : Session) (c : Call) (cs : List Call) (n : ℕ) → c .offer ≡ unread n → unsound s ≡ false → Runs s (c ∷ cs) → Room (c ∷ cs)
-    → s .arrival < lastNumber → Turned s c cs n
-unfolding turnedAway
-turned s c cs n x u w k l =
-    let o : Outcome = refused (counted s) n in
-    let more : eqb (s .arrival) lastNumber ≡ false = ne-eqb (s .arrival) lastNumber (λ z. omega arith) in
-    let is : offered s (c .offer) (c .lent) ≡ o =
-    ap (λ (y : Stretch). offered s y (c .lent)) x ∙ roomy s (c .lent) o (k .0) u ∙ sym (passed (eqb (s .arrival) lastNumber) _ o _ more refl) in
+turned-by : (s : Session) (c : Call) (cs : List Call) (x : Stretch) (n octet : ℕ) → c .offer ≡ x → unsound s ≡ false
+    → Runs s (c ∷ cs) → offered s x (c .lent) ≡ refusedAt (counted s) n octet → Turned s c cs
+turned-by s c cs x n octet e u w i =
+    let o : Outcome = refusedAt (counted s) n octet in
+    let is : offered s (c .offer) (c .lent) ≡ o = ap (λ (y : Stretch). offered s y (c .lent)) e ∙ i in
     let gives : Gives o (c .result) (c .lent) (c .left) = subst (λ (z : Outcome). Gives z (c .result) (c .lent) (c .left)) is (w .0) in
     record {
       says = ap (λ (a : Told Accepted). told a ++ masterLosses cs) (gives .answers);
       sound = counted-sound s u;
       runs = subst (λ (z : Session). Runs z cs) (gives .session) (w .1);
     }
+
+module _ (s : Session) (c : Call) (cs : List Call) (u : unsound s ≡ false) (w : Runs s (c ∷ cs)) (k : Room (c ∷ cs))
+    (l : s .arrival < lastNumber) where
+  more : eqb (s .arrival) lastNumber ≡ false
+  more = ne-eqb (s .arrival) lastNumber (λ z. omega arith)
+
+  turned : (t : ℕ) (x : Stretch) → Stray t x → s .t ≡ t → c .offer ≡ x → Turned s c cs
+  unfolding turnedAway outcome
+  turned t (unread n) st q e =
+      turned-by s c cs (unread n) n 0 e u w (roomy s (c .lent) _ (k .0) u ∙ sym (passed (eqb (s .arrival) lastNumber) _ _ _ more refl))
+  turned t (found x) st q e =
+      let refused : readFrame (s .t) x .accepted ≡ false = ap (λ (j : ℕ). readFrame j x .accepted) q ∙ st in
+      turned-by s c cs (found x) (readFrame (s .t) x .refusal) (readFrame (s .t) x .octet) e u w
+      (roomy s (c .lent) _ (k .0) u ∙ sym (passed (eqb (s .arrival) lastNumber) _ _ _ more refl)
+      ∙ sym (passed (readFrame (s .t) x .accepted) _ _ _ refused refl))
 
 -- ---- the whole run
 
@@ -146,26 +158,26 @@ module _ (t : ℕ) where
   masters : (fs : List Framed) (link : List Passing) (calls : List Call) (s : Session) (d : Option ℕ) (m : ℕ)
       → unsound s ≡ false → s .t ≡ t → Runs s calls → Room calls → map offerOf calls ≡ arriving t link fs
       → AllWellFormed t fs → Mastered m fs → m < 256 → s .arrival + length (arriving t link fs) ≤ lastNumber
-      → Follows (lastOf (s .heard) (s .master .0)) d m
+      → Follows (lastOf (s .heard) (s .master .0)) d m → Strays t link
       → masterLosses calls ≡ map modulo256 (lossesAfter d (allFates (s .arrival) link fs))
-  masters [] [] [] s d m r e w k x g h l n q = refl
-  masters [] [] (c ∷ cs) s d m r e w k x g h l n q = absurd (nil-cons (sym x))
-  masters [] (arrives ∷ link) calls s d m r e w k x g h l n q = masters [] link calls s d m r e w k x g h l n q
-  masters [] (loses ∷ link) calls s d m r e w k x g h l n q = masters [] link calls s d m r e w k x g h l n q
-  masters fs (noise z ∷ link) [] s d m r e w k x g h l n q = absurd (nil-cons x)
-  masters [] (noise z ∷ link) (c ∷ cs) s d m r e w k x g h l n q =
-      let y : Turned s c cs z = turned s c cs z (offer-here c cs x) r w k (omega arith) in
-      y .says ∙ masters [] link cs (counted s) d m (y .sound) e (y .runs) (k .1) (offers-rest c cs x) g h l (omega arith) q
-  masters (f ∷ fs) (noise z ∷ link) (c ∷ cs) s d m r e w k x g h l n q =
-      let y : Turned s c cs z = turned s c cs z (offer-here c cs x) r w k (omega arith) in
-      y .says ∙ masters (f ∷ fs) link cs (counted s) d m (y .sound) e (y .runs) (k .1) (offers-rest c cs x) g h l (omega arith) q
-  masters (f ∷ fs) [] [] s d m r e w k x g h l n q = ap (map modulo256) (sym (none-arrive (s .arrival) d (f ∷ fs)))
-  masters (f ∷ fs) [] (c ∷ cs) s d m r e w k x g h l n q = absurd (nil-cons (sym x))
-  masters (f ∷ fs) (loses ∷ link) calls s d m r e w k x g h l n q =
+  masters [] [] [] s d m r e w k x g h l n q st = refl
+  masters [] [] (c ∷ cs) s d m r e w k x g h l n q st = absurd (nil-cons (sym x))
+  masters [] (arrives ∷ link) calls s d m r e w k x g h l n q st = masters [] link calls s d m r e w k x g h l n q st
+  masters [] (loses ∷ link) calls s d m r e w k x g h l n q st = masters [] link calls s d m r e w k x g h l n q st
+  masters fs (noise z ∷ link) [] s d m r e w k x g h l n q st = absurd (nil-cons x)
+  masters [] (noise z ∷ link) (c ∷ cs) s d m r e w k x g h l n q st =
+      let y : Turned s c cs = turned s c cs r w k (omega arith) t z (st .0) e (offer-here c cs x) in
+      y .says ∙ masters [] link cs (counted s) d m (y .sound) e (y .runs) (k .1) (offers-rest c cs x) g h l (omega arith) q (st .1)
+  masters (f ∷ fs) (noise z ∷ link) (c ∷ cs) s d m r e w k x g h l n q st =
+      let y : Turned s c cs = turned s c cs r w k (omega arith) t z (st .0) e (offer-here c cs x) in
+      y .says ∙ masters (f ∷ fs) link cs (counted s) d m (y .sound) e (y .runs) (k .1) (offers-rest c cs x) g h l (omega arith) q (st .1)
+  masters (f ∷ fs) [] [] s d m r e w k x g h l n q st = ap (map modulo256) (sym (none-arrive (s .arrival) d (f ∷ fs)))
+  masters (f ∷ fs) [] (c ∷ cs) s d m r e w k x g h l n q st = absurd (nil-cons (sym x))
+  masters (f ∷ fs) (loses ∷ link) calls s d m r e w k x g h l n q st =
       masters fs link calls s (oneMore d) (nextCount m) r e w k x (g .1) (h .1) (omega arith) n
-      (follows-lost (lastOf (s .heard) (s .master .0)) d m q)
-  masters (f ∷ fs) (arrives ∷ link) [] s d m r e w k x g h l n q = absurd (nil-cons x)
-  masters (f ∷ fs) (arrives ∷ link) (c ∷ cs) s d m r e w k x g h l n q =
+      (follows-lost (lastOf (s .heard) (s .master .0)) d m q) st
+  masters (f ∷ fs) (arrives ∷ link) [] s d m r e w k x g h l n q st = absurd (nil-cons x)
+  masters (f ∷ fs) (arrives ∷ link) (c ∷ cs) s d m r e w k x g h l n q st =
       let here : c .offer ≡ found (sentOctets t f) = offer-here c cs x in
       let rest : map offerOf cs ≡ arriving t link fs = offers-rest c cs x in
       let b = reads-back (f .fields) t (f .«data») (f .time) (g .0) in
@@ -184,7 +196,8 @@ module _ (t : ℕ) where
       let ih : masterLosses cs ≡ map modulo256 (lossesAfter (some 0) (allFates (o .session .arrival) link fs)) =
       masters fs link cs (o .session) (some 0) (nextCount m)
       (subst (λ (z : Outcome). unsound (z .session) ≡ false) is (offer-stays s (c .offer) (c .lent) r .sound))
-      (taken-time s f ∙ e) (subst (λ (z : Session). Runs z cs) (gives .session) (w .1)) (k .1) rest (g .1) (h .1) (omega arith) (omega arith) follows in
+      (taken-time s f ∙ e) (subst (λ (z : Session). Runs z cs) (gives .session) (w .1)) (k .1) rest (g .1) (h .1) (omega arith)
+      (omega arith) follows st in
       ap (λ (a : Told Accepted). told a ++ masterLosses cs) (gives .answers)
       ∙ ap (λ (a : List LostAt). a ++ masterLosses cs) (taken-told s f)
       ∙ ap (λ (j : Loss). lostAt (s .arrival + 1) j ∷ masterLosses cs) same
@@ -195,7 +208,7 @@ pub master-loss : MasterLoss
 master-loss r =
     masters (r .t) (r .frames) (r .link) (r .calls) (opened (r .t) (r .last)) none (r .sender .master)
     (opened-sound (r .t) (r .last) (r .timeSize)) refl (opened-runs (r .t) (r .last) (r .timeSize) (r .opened) (r .opens) (r .calls) (r .runs)) (r .room)
-    (r .offers) (r .sender .wellFormed) (r .sender .masters) (r .sender .small) (r .numbers) tt
+    (r .offers) (r .sender .wellFormed) (r .sender .masters) (r .sender .small) (r .numbers) tt (r .strays)
 
 small : (l : Loss) → number l ≤ mostLost → lossModulo256 l ≡ l
 small Unknown h = refl

@@ -1,27 +1,26 @@
 -- The frames that reach 16 and 17 headers.
-use mathlib.Core.Path.{_≡_, refl, sym, ap, _∙_, subst}
+use mathlib.Core.Path.{refl, ap}
 use mathlib.Core.List.{List, [], _∷_}
 use Prim.Native.Nat.{ℕ, zero, suc, _<_}
 use lib.Dec.{lit≤, lit<}
 use Rattle.counts.specs.Lost.{lostSince}
 use Rattle.frame.specs.Frame.{pointerWrong}
 use Rattle.frame.specs.Write.{fieldsWrong}
-use Rattle.rules.specs.Channel.{Piece, standing, push, placeAfter, lengthHolds, enter, follow, step}
+use Rattle.rules.specs.Channel.{standing, push, placeAfter, lengthHolds, enter, follow, step}
 use Rattle.rules.specs.Packets.{AllGood}
 use Rattle.session.specs.Open.{opened}
+use Rattle.stretch.specs.Stretch.{Stretch}
 use Rattle.sender.specs.Stream.{next}
 use Rattle.sender.specs.Sender.{Framed, AllWellFormed, Stream, Sender}
-use Rattle.delivery.specs.Link.{Fate, Passing, arrives, arriving, fates}
-use Rattle.delivery.specs.Expected.{expectedLosses, AtMost, mostLost}
-use Rattle.delivery.specs.Delivered.{Report}
-use Rattle.delivery.specs.Run.{Call}
+use Rattle.delivery.specs.Link.{Passing, arrives, arriving}
+use Rattle.delivery.specs.Run.{Call, Runs, Room}
 use Rattle.delivery.specs.Demand.{Reception}
 use Rattle.delivery.specs.MostLost.{alone}
 use Rattle.delivery.specs.MostHeaders.{headersOf, many, sentPieces, torn, both, MostHeaders}
 use Rattle.delivery.proofs.Corners.{good-16}
 use Rattle.delivery.proofs.Lending.{callsOf, calls-run, calls-room, calls-offer}
 use Rattle.delivery.proofs.Recording.{frames-said, said-is}
-use Rattle.delivery.proofs.MostLost.{alone-masters, alone-pieces, no-pieces, no-fates}
+use Rattle.delivery.proofs.MostLost.{alone-masters, alone-pieces, no-pieces}
 use Rattle.delivery.proofs.Witness.{begun, opens, receiving}
 
 many-good : AllGood many
@@ -48,15 +47,20 @@ sender = record { wellFormed = sent-formed; master = 7; small = lit< tt; masters
 abbrev one : List Passing
 one = arrives ∷ []
 
-gaps : (v : ℕ) → v < 8 → AtMost mostLost (expectedLosses (fates v 0 one sent))
-gaps zero l = (lit≤ tt, tt)
-gaps (suc v) l = subst (λ (ss : List Fate). AtMost mostLost (expectedLosses ss)) (sym (no-fates v 0 one 7 sentPieces)) tt
-
 abbrev reception : Reception
-reception = receiving sent sender one gaps (lit≤ tt)
+reception = receiving sent sender one tt (lit≤ tt)
+
+abbrev offer : List Stretch
+offer = arriving 2 both torn
 
 abbrev calls : List Call
-calls = callsOf (opened 2 0) (arriving 2 both torn)
+calls = callsOf (opened 2 0) offer
+
+abbrev runs : Runs (opened 2 0) calls
+runs = calls-run (opened 2 0) offer
+
+abbrev room : Room calls
+room = calls-room (opened 2 0) offer
 
 pub most-headers : MostHeaders
 unfolding standing push placeAfter lengthHolds enter follow lostSince step
@@ -67,11 +71,11 @@ most-headers = record {
   opened = begun;
   opens = opens;
   calls = calls;
-  offers = calls-offer (opened 2 0) (arriving 2 both torn);
-  runs = calls-run (opened 2 0) (arriving 2 both torn);
-  room = calls-room (opened 2 0) (arriving 2 both torn);
+  offers = calls-offer (opened 2 0) offer;
+  runs = runs;
+  room = room;
   seventeen =
       ap headersOf
-      (frames-said 2 0 0 (lit≤ tt) (lit< tt) begun opens calls (calls-run (opened 2 0) (arriving 2 both torn)) (calls-room (opened 2 0) (arriving 2 both torn)) both torn
-      torn-formed (calls-offer (opened 2 0) (arriving 2 both torn)) (lit≤ tt));
+      (frames-said 2 0 0 (lit≤ tt) (lit< tt) begun opens calls runs room both tt torn torn-formed (calls-offer (opened 2 0) offer)
+      (lit≤ tt));
 }

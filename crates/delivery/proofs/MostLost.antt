@@ -1,5 +1,5 @@
 -- A channel may lose 255 frames between two arrivals.
-use mathlib.Core.Path.{_≡_, refl, sym, ap, subst}
+use mathlib.Core.Path.{_≡_, refl, ap}
 use mathlib.Core.List.{List, [], _∷_}
 use mathlib.Core.Bool.{Bool, true, false, not, _&&_}
 use Prim.Native.Nat.{ℕ, zero, suc, _+_, _<_}
@@ -13,8 +13,7 @@ use Rattle.frame.specs.Write.{fieldsWrong}
 use Rattle.rules.specs.Channel.{Piece}
 use Rattle.sender.specs.Sender.{Framed, AllWellFormed, Mastered, piecesOf, Stream, Sender}
 use Rattle.sender.specs.Stream.{nextCount}
-use Rattle.delivery.specs.Link.{Fate, Passing, arrives, loses, noise, fates}
-use Rattle.delivery.specs.Expected.{expectedLosses, AtMost, mostLost}
+use Rattle.delivery.specs.Link.{Passing, arrives, loses, noise, fates}
 use Rattle.delivery.specs.Demand.{Reception}
 use Rattle.delivery.specs.Corners.{two, manyEmpty}
 use Rattle.delivery.specs.MostLost.{alone, pieces, recording, losing, MostLost}
@@ -28,7 +27,7 @@ abbrev allRight : ℕ → List Framed → Bool
 allRight t [] = true
 allRight t (f ∷ fs) = not (fieldsWrong (f .fields) t (length (f .«data»)) (length (f .time))) && allRight t fs
 
-all-right : (t : ℕ) (fs : List Framed) → allRight t fs ≡ true → AllWellFormed t fs
+pub all-right : (t : ℕ) (fs : List Framed) → allRight t fs ≡ true → AllWellFormed t fs
 all-right t [] e = tt
 all-right t (f ∷ fs) e =
     let wrong : Bool = fieldsWrong (f .fields) t (length (f .«data»)) (length (f .time)) in
@@ -68,19 +67,15 @@ streams (suc v) l = record { packets = []; good = tt; choices = []; first = 0; s
 abbrev sender : Sender 2 recording
 sender = record { wellFormed = well-formed; master = 7; small = lit< tt; masters = alone-masters 7 pieces; streams = streams }
 
-gaps : (v : ℕ) → v < 8 → AtMost mostLost (expectedLosses (fates v 0 losing recording))
-gaps zero l = (lit≤ tt, (lit≤ tt, (lit≤ tt, tt)))
-gaps (suc v) l = subst (λ (ss : List Fate). AtMost mostLost (expectedLosses ss)) (sym (no-fates v 0 losing 7 pieces)) tt
-
 abbrev reception : Reception
-reception = receiving recording sender losing gaps (lit≤ tt)
+reception = receiving recording sender losing tt (lit≤ tt)
 
 pub most-lost : MostLost
 most-lost = record {
   reception = reception;
   sent = refl;
   lost = refl;
-  packets = demand-3 reception 0 (lit< tt) .handed-out;
-  told = demand-3 reception 0 (lit< tt) .losses-told;
+  packets = demand-3 reception 0 (lit< tt) (lit≤ tt, (lit≤ tt, (lit≤ tt, tt))) .handed-out;
+  told = demand-3 reception 0 (lit< tt) (lit≤ tt, (lit≤ tt, (lit≤ tt, tt))) .losses-told;
   masters = master-loss reception;
 }

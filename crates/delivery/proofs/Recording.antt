@@ -23,8 +23,8 @@ use Rattle.stretch.specs.Stretch.{Stretch, found, unread}
 use Rattle.session.specs.Open.{opened, opening, Opens}
 use Rattle.session.proofs.Staying.{opened-sound}
 use Rattle.sender.specs.Sender.{Framed, sentOctets, AllWellFormed, when, ofChannel, pieceOf, piecesOf, Stream}
-use Rattle.delivery.specs.Link.{Fate, lost, got, Passing, arrives, loses, noise, arriving, fates}
-use Rattle.delivery.specs.Expected.{piece}
+use Rattle.delivery.specs.Link.{Fate, lost, got, Passing, Stray, Strays, arrives, loses, noise, arriving, fates}
+use Rattle.delivery.specs.Expected.{piece, FewLost}
 use Rattle.delivery.specs.Delivered.{Delivered}
 use Rattle.delivery.specs.Run.{Call, Runs, Room, offerOf, reportsOf}
 use Rattle.delivery.specs.Channels.{Offer, offered, run, readOffer, offerFor, offersOf}
@@ -85,25 +85,37 @@ module _ (t : ℕ) where
       offer : List ℕ → Offer
       offer d = record { arrival = a; frame = record { count = f .fields .count .0; pointer = f .fields .pointer; octets = d } }
 
-  offers-fates : (v last : ℕ) (link : List Passing) (fs : List Framed) → AllWellFormed t fs → last + length (arriving t link fs) ≤ lastNumber
-      → offersOf t v last (arriving t link fs) ≡ offered (fates v last link fs)
-  offers-fates v last [] [] w n = refl
-  offers-fates v last [] (f ∷ fs) w n =
-      offers-fates v last [] fs (w .1) n ∙ sym (offered-lost (ofChannel v f) (pieceOf f) (fates v last [] fs))
-  offers-fates v last (noise m ∷ link) [] w n =
-      numbered t v last (unread m) (arriving t link []) (ne-eqb last lastNumber (λ e. omega arith)) ∙ offers-fates v (last + 1) link [] w (omega arith)
-  offers-fates v last (noise m ∷ link) (f ∷ fs) w n =
-      numbered t v last (unread m) (arriving t link (f ∷ fs)) (ne-eqb last lastNumber (λ e. omega arith)) ∙ offers-fates v (last + 1) link (f ∷ fs) w (omega arith)
-  offers-fates v last (arrives ∷ link) [] w n = offers-fates v last link [] w n
-  offers-fates v last (loses ∷ link) [] w n = offers-fates v last link [] w n
-  offers-fates v last (loses ∷ link) (f ∷ fs) w n =
-      offers-fates v last link fs (w .1) n ∙ sym (offered-lost (ofChannel v f) (pieceOf f) (fates v last link fs))
-  offers-fates v last (arrives ∷ link) (f ∷ fs) w n =
+  -- what is none of the sender's is for no channel
+  stray-none : (v a : ℕ) (x : Stretch) → Stray t x → offerFor t v a x ≡ []
+  stray-none v a (found x) e = rw e
+  stray-none v a (unread n) e = refl
+
+  stray-passes : (v last : ℕ) (x : Stretch) (xs : List Stretch) → Stray t x → last < lastNumber
+      → offersOf t v last (x ∷ xs) ≡ offersOf t v (last + 1) xs
+  stray-passes v last x xs st k =
+      numbered t v last x xs (ne-eqb last lastNumber (λ e. omega arith))
+      ∙ ap (λ (l : List Offer). l ++ offersOf t v (last + 1) xs) (stray-none v (last + 1) x st)
+
+  offers-fates : (v last : ℕ) (link : List Passing) (fs : List Framed) → Strays t link → AllWellFormed t fs
+      → last + length (arriving t link fs) ≤ lastNumber → offersOf t v last (arriving t link fs) ≡ offered (fates v last link fs)
+  offers-fates v last [] [] st w n = refl
+  offers-fates v last [] (f ∷ fs) st w n =
+      offers-fates v last [] fs st (w .1) n ∙ sym (offered-lost (ofChannel v f) (pieceOf f) (fates v last [] fs))
+  offers-fates v last (noise x ∷ link) [] st w n =
+      stray-passes v last x (arriving t link []) (st .0) (omega arith) ∙ offers-fates v (last + 1) link [] (st .1) w (omega arith)
+  offers-fates v last (noise x ∷ link) (f ∷ fs) st w n =
+      stray-passes v last x (arriving t link (f ∷ fs)) (st .0) (omega arith)
+      ∙ offers-fates v (last + 1) link (f ∷ fs) (st .1) w (omega arith)
+  offers-fates v last (arrives ∷ link) [] st w n = offers-fates v last link [] st w n
+  offers-fates v last (loses ∷ link) [] st w n = offers-fates v last link [] st w n
+  offers-fates v last (loses ∷ link) (f ∷ fs) st w n =
+      offers-fates v last link fs st (w .1) n ∙ sym (offered-lost (ofChannel v f) (pieceOf f) (fates v last link fs))
+  offers-fates v last (arrives ∷ link) (f ∷ fs) st w n =
       let r = reads-back (f .fields) t (f .«data») (f .time) (w .0) in
       numbered t v last (found (sentOctets t f)) (arriving t link fs) (ne-eqb last lastNumber (λ e. omega arith))
       ∙ ap (λ (l : List Offer). l ++ offersOf t v (last + 1) (arriving t link fs)) (offer-is v (last + 1) f r)
       ∙ ap (λ (l : List Offer). when (ofChannel v f) (record { arrival = last + 1; frame = pieceOf f }) ++ l)
-      (offers-fates v (last + 1) link fs (w .1) (omega arith))
+      (offers-fates v (last + 1) link fs st (w .1) (omega arith))
       ∙ sym (offered-got (ofChannel v f) (last + 1) (pieceOf f) (fates v (last + 1) link fs))
 
 -- ---- from the opening on
@@ -138,12 +150,12 @@ independent-from s s′ v calls calls′ l l′ u u′ t c w room w′ room′ e
 
 -- what calls from an opening say of a channel, well-formed frames having been offered to them
 pub frames-said : (t last v : ℕ) → t ≤ 8 → v < 8 → (o : Opened) → Opens t last o → (calls : List Call) → Runs (o .session) calls → Room calls
-    → (link : List Passing) (frames : List Framed) → AllWellFormed t frames → map offerOf calls ≡ arriving t link frames
+    → (link : List Passing) → Strays t link → (frames : List Framed) → AllWellFormed t frames → map offerOf calls ≡ arriving t link frames
     → last + length (arriving t link frames) ≤ lastNumber → reportsOf v calls ≡ run rules.fresh (offered (fates v last link frames))
-frames-said t last v k l o h calls w room link frames well e n =
+frames-said t last v k l o h calls w room link st frames well e n =
     from-opening t last v k l o h calls w room
     ∙ ap (λ (xs : List Stretch). run rules.fresh (offersOf t v last xs)) e
-    ∙ ap (run rules.fresh) (offers-fates t v last link frames well n)
+    ∙ ap (run rules.fresh) (offers-fates t v last link frames st well n)
 
 module _ (r : Reception) (v : ℕ) (l : v < 8) where
   abbrev ss : List Fate
@@ -154,7 +166,7 @@ module _ (r : Reception) (v : ℕ) (l : v < 8) where
 
   pub said-is : reportsOf v (r .calls) ≡ run rules.fresh (offered ss)
   said-is =
-      frames-said (r .t) (r .last) v (r .timeSize) l (r .opened) (r .opens) (r .calls) (r .runs) (r .room) (r .link) (r .frames)
+      frames-said (r .t) (r .last) v (r .timeSize) l (r .opened) (r .opens) (r .calls) (r .runs) (r .room) (r .link) (r .strays) (r .frames)
       (r .sender .wellFormed) (r .offers) (r .numbers)
 
   pieces : map piece ss ≡ piecesOf v (r .frames)
@@ -163,18 +175,18 @@ module _ (r : Reception) (v : ℕ) (l : v < 8) where
   short : AllShort (map piece ss)
   short = subst AllShort (sym pieces) (all-short (r .t) v (r .frames) (r .sender .wellFormed))
 
-  pub delivered : Delivered (stream .packets) ss (reportsOf v (r .calls))
-  delivered =
+  pub delivered : FewLost ss → Delivered (stream .packets) ss (reportsOf v (r .calls))
+  delivered gaps =
       subst (Delivered (stream .packets) ss) (sym said-is)
-      (delivery (stream .packets) (stream .choices) (stream .first) ss (stream .good) (stream .small) (pieces ∙ stream .sent) short (r .gaps v l))
+      (delivery (stream .packets) (stream .choices) (stream .first) ss (stream .good) (stream .small) (pieces ∙ stream .sent) short gaps)
 
-  pub light : EachFew (reportsOf v (r .calls))
-  light =
+  pub light : FewLost ss → EachFew (reportsOf v (r .calls))
+  light gaps =
       subst EachFew (sym said-is)
-      (few-headers (stream .packets) (stream .choices) (stream .first) ss (stream .good) (stream .small) (pieces ∙ stream .sent) short (r .gaps v l))
+      (few-headers (stream .packets) (stream .choices) (stream .first) ss (stream .good) (stream .small) (pieces ∙ stream .sent) short gaps)
 
 pub demand-3 : Demand3
-demand-3 r v l = delivered r v l
+demand-3 r v l gaps = delivered r v l gaps
 
 pub few-sent : FewSent
-few-sent r v l = light r v l
+few-sent r v l gaps = light r v l gaps

@@ -98,3 +98,7 @@ AtMost m (l ∷ ls) = (number (l .lost) ≤ m) × AtMost m ls
 -- The most frames of a channel that may be lost between two arrivals on it: a count of one octet shows no more.
 abbrev pub mostLost : ℕ
 mostLost = 255
+
+-- What the link may lose of a channel whose frames have these fates.
+abbrev pub FewLost : List Fate → Type 0
+FewLost ss = AtMost mostLost (expectedLosses ss)

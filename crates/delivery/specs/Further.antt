@@ -1,13 +1,15 @@
--- 9. What else is proved of a run: independence of channels, nothing lost, the bounds of a frame, the master loss.
-use Prim.Native.Nat.{ℕ, _%_, _≤_, _<_}
+-- 9. What else is proved of a run: independence of channels, nothing lost, the bounds of a frame, the master loss, what is refused.
+use Prim.Native.Nat.{ℕ, _+_, _%_, _≤_, _<_}
 use mathlib.Core.Path.{_≡_}
 use mathlib.Core.List.{List, [], _∷_, _++_, map}
-use mathlib.Core.Bool.{false}
+use mathlib.Core.Bool.{true, false}
 use lib.ListN.{length}
 use Rattle.counts.specs.declared.Loss.{Loss}
 use Rattle.counts.specs.declared.Loss.the-variants.{Unknown, Known}
+use Rattle.answer.specs.Refusals as no
+use Rattle.frame.specs.Frame.{readFrame}
 use Rattle.frame.specs.Limits.{longestTime}
-use Rattle.rules.specs.Limits.{mostPackets, mostOctets, mostHeaders, mostSent, virtualChannels}
+use Rattle.rules.specs.Limits.{mostPackets, mostOctets, mostHeaders, mostSent, virtualChannels, lastNumber}
 use Rattle.rules.specs.Packets.{bare, joined}
 use Rattle.session.specs.declared.Session.{Session}
 use Rattle.session.specs.declared.Opened.{Opened}
@@ -15,12 +17,14 @@ use Rattle.session.specs.Open.{Opens}
 use Rattle.session.specs.Channel.{view, unsound}
 use Rattle.session.specs.Step.{Gives, channelAt}
 use Rattle.session.specs.Statements.{offered}
-use Rattle.sender.specs.Sender.{when}
-use Rattle.delivery.specs.Link.{kept, fates, allFates}
-use Rattle.delivery.specs.Expected.{owners, LostAt, lostAt, expectedLosses, AtMost, mostLost}
+use Rattle.stretch.specs.Stretch.{Stretch, found, unread}
+use Rattle.sender.specs.Sender.{Framed, when, pieceOf}
+use Rattle.delivery.specs.Link.{Passing, kept, fates, allFates}
+use Rattle.delivery.specs.Expected.{allGot, owners, LostAt, lostAt, expectedLosses, FewLost}
 use Rattle.delivery.specs.Delivered.{Report, handed}
 use Rattle.delivery.specs.Run.{Call, Runs, Room, offerOf, answerOf, packetsOf, reportsOf}
 use Rattle.delivery.specs.Channels.{offersOf}
+use Rattle.delivery.specs.Channels as channels
 use Rattle.delivery.specs.Demand.{Reception}
 
 -- A channel's results, master loss aside, are the same in two sessions that offer it the same frames under the same arrival numbers
@@ -40,9 +44,10 @@ IndependentFrom = (s s′ : Session) (v : ℕ) (calls calls′ : List Call) → 
     → offersOf (s .t) v (s .arrival) (map offerOf calls) ≡ offersOf (s′ .t) v (s′ .arrival) (map offerOf calls′)
     → reportsOf v calls ≡ reportsOf v calls′
 
--- With nothing lost, and all octets of a channel's packets sent, exactly the sender's packets are handed out, once each and in order.
+-- With none of a channel's frames lost, and all octets of its packets sent, exactly the sender's packets are handed out, once each and in
+-- order.
 abbrev pub NothingLost : Type 0
-NothingLost = (r : Reception) → kept (r .link) (r .frames) ≡ r .frames → (v : ℕ) (l : v < virtualChannels)
+NothingLost = (r : Reception) (v : ℕ) (l : v < virtualChannels) → allGot (fates v (r .last) (r .link) (r .frames)) ≡ true
     → length (joined (r .sender .streams v l .packets)) ≤ length (owners 0 (fates v (r .last) (r .link) (r .frames)))
     → bare (handed (reportsOf v (r .calls))) ≡ r .sender .streams v l .packets
 
@@ -55,13 +60,14 @@ pub record Few (c : Call) : Type 0 where
 abbrev pub FewEach : Type 0
 FewEach = (s : Session) (c : Call) → Gives (offered s (c .offer) (c .lent)) (c .result) (c .lent) (c .left) → Few c
 
--- Of a sender by the rules, received as demand 3 says, each frame completes at most 16 headers, on each of the eight channels.
+-- Of a sender by the rules, received as demand 3 says, each frame of the channel completes at most 16 headers.
 abbrev pub EachFew : List Report → Type 0
 EachFew [] = Unit {0}
 EachFew (r ∷ rs) = (r .headers ≤ mostSent) × EachFew rs
 
 abbrev pub FewSent : Type 0
-FewSent = (r : Reception) (v : ℕ) → v < virtualChannels → EachFew (reportsOf v (r .calls))
+FewSent = (r : Reception) (v : ℕ) → v < virtualChannels → FewLost (fates v (r .last) (r .link) (r .frames))
+    → EachFew (reportsOf v (r .calls))
 
 -- The master losses that the run told, each with its arrival number.
 abbrev pub masterLosses : List Call → List LostAt
@@ -82,5 +88,33 @@ MasterLoss = (r : Reception) → masterLosses (r .calls) ≡ map modulo256 (expe
 
 -- Hence that number where it is at most 255.
 abbrev pub MasterLossExact : Type 0
-MasterLossExact = (r : Reception) → AtMost mostLost (expectedLosses (allFates (r .last) (r .link) (r .frames)))
+MasterLossExact = (r : Reception) → FewLost (allFates (r .last) (r .link) (r .frames))
     → masterLosses (r .calls) ≡ expectedLosses (allFates (r .last) (r .link) (r .frames))
+
+-- The frames that the link lets arrive are those whose fate it is to be got.
+abbrev pub KeptAreGot : Type 0
+KeptAreGot = (last : ℕ) (link : List Passing) (frames : List Framed)
+    → map pieceOf (kept link frames) ≡ map (λ (o : channels.Offer). o .frame) (channels.offered (allFates last link frames))
+
+-- The refusal that a call answers, 0 of an accepted frame; and the one that a stretch has of its own, whatever the session.
+abbrev pub refusalOf : Call → ℕ
+refusalOf c = answerOf c .refusal
+
+abbrev pub ownRefusal : ℕ → Stretch → ℕ
+ownRefusal t (found x) = readFrame t x .refusal
+ownRefusal t (unread n) = n
+
+-- With numbers and room to spare, a session answers each stretch with the stretch's own refusal: what is refused is told, whatever
+-- stands before it.
+abbrev pub RefusalsTold : Type 0
+RefusalsTold = (t last : ℕ) (o : Opened) (calls : List Call) → t ≤ longestTime → Opens t last o → Runs (o .session) calls → Room calls
+    → last + length calls ≤ lastNumber → map refusalOf calls ≡ map (ownRefusal t) (map offerOf calls)
+
+-- No session that opening and steps give gets refusal 4: in any run of calls from any opening, a refused one too, whatever is offered and
+-- lent, a call answers 4 only to a stretch that is turned away with 4 as its own number.
+abbrev pub NoneGets4 : List Call → Type 0
+NoneGets4 [] = Unit {0}
+NoneGets4 (c ∷ cs) = (answerOf c .refusal ≡ no.session → c .offer ≡ unread no.session) × NoneGets4 cs
+
+abbrev pub StaysSound : Type 0
+StaysSound = (t last : ℕ) (o : Opened) (calls : List Call) → Opens t last o → Runs (o .session) calls → NoneGets4 calls

@@ -15,7 +15,7 @@ use Rattle.rules.specs.Channel.{heldOf, Handed, given, Channel, fresh, answer, 
 use Rattle.rules.specs.Packets.{AllGood, firsts}
 use Rattle.sender.specs.Stream.{Choice, next, framesBy}
 use Rattle.delivery.specs.Link.{Fate}
-use Rattle.delivery.specs.Expected.{piece, expected, expectedLosses, AtMost, mostLost}
+use Rattle.delivery.specs.Expected.{piece, expected, expectedLosses, FewLost}
 use Rattle.delivery.specs.Delivered.{Report, handed, losses, Delivered}
 use Rattle.delivery.specs.Channels.{Offer, offered, runBy, run, report}
 use Rattle.delivery.specs.Corners.{sentBy, two, gap, split, raws}
@@ -28,7 +28,7 @@ pub record Within (packets : List (List ℕ)) (fates : List Fate) : Type 0 where
   pub first : ℕ
   pub small : first < 256
   pub sent : map piece fates ≡ framesBy packets 0 first choices
-  pub gaps : AtMost mostLost (expectedLosses fates)
+  pub gaps : FewLost fates
 
 -- On it the conclusion fails.
 pub record Fails (sham : List Offer → List Report) (packets : List (List ℕ)) (fates : List Fate) : Type 0 where

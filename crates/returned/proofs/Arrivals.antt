@@ -3,14 +3,12 @@ use Prim.Native.Nat.{ℕ, zero, suc, _+_, _-_, _*_, _/_, _≤_, _<_}
 use mathlib.Core.Path.{_≡_, refl, sym, ap, _∙_}
 use mathlib.Core.List.{List, [], _∷_, _++_, map}
 use mathlib.Core.Bool.{Bool, true, false, cond}
-use mathlib.Core.Option.{Option, none, some}
 use native.Mathlib.Omega.{arith}
 use native.Mathlib.Nat.{div-eq-of-lt, div-eq-sub-div}
 use lib.ListN.{length, getD, take, drop, replicate, length-append, length-take, length-drop, length-replicate, getD-replicate, List·getD-append}
 use lib.Seq.{getD-append-add}
 use lib.Dec.{eqb}
 use borrow.Author.Tests.{le-leb, ne-eqb, eq-eqb}
-use Rattle.counts.specs.Lost.{number}
 use Rattle.rules.specs.Channel.{Piece, Handed}
 use Rattle.rules.specs.Packets.{joined}
 use Rattle.rules.proofs.Standing.{Order, upTo, past, order}
@@ -21,8 +19,8 @@ use Rattle.sender.specs.Frames.{framedFrom}
 use Rattle.sender.specs.Calls.{taken}
 use Rattle.sender.specs.declared.Common.{Common}
 use Rattle.sender.proofs.Joining.{heads-length}
-use Rattle.delivery.specs.Link.{Fate, lost, got, Passing, arrives, kept, arriving, fates}
-use Rattle.delivery.specs.Expected.{piece, allGot, arrivalOf, nowhere, carries, owners, arrived, expectedFrom, toldAs, lossesAfter, AtMost}
+use Rattle.delivery.specs.Link.{Fate, got, Passing, Strays, arrives, fates}
+use Rattle.delivery.specs.Expected.{piece, allGot, arrivalOf, nowhere, carries, owners, arrived, expectedFrom}
 use Rattle.delivery.proofs.Facts.{nil-cons, drop-suc, drop-get}
 use Rattle.delivery.proofs.NothingLost.{got-take, got-drop}
 use Rattle.delivery.proofs.OneChannel.{AllShort}
@@ -34,14 +32,18 @@ abbrev pub allArrive : List Framed → List Passing
 allArrive [] = []
 allArrive (f ∷ fs) = arrives ∷ allArrive fs
 
-pub kept-all : (fs : List Framed) → kept (allArrive fs) fs ≡ fs
-kept-all [] = refl
-kept-all (f ∷ fs) = ap (λ (l : List Framed). f ∷ l) (kept-all fs)
+-- nothing else comes
+pub no-strays : (t : ℕ) (fs : List Framed) → Strays t (allArrive fs)
+no-strays t [] = tt
+no-strays t (f ∷ fs) = no-strays t fs
 
-pub no-gaps : (so : Option ℕ) (ss : List Fate) → allGot ss ≡ true → number (toldAs so) ≤ 255 → AtMost 255 (lossesAfter so ss)
-no-gaps so [] g l = tt
-no-gaps so (lost f ∷ ss) g l = let z : _≡_ {A = ℕ} 0 1 = cc in absurd (omega arith)
-no-gaps so (got a f ∷ ss) g l = (l, no-gaps (some 0) ss g (omega arith))
+got-when : (b : Bool) (a : ℕ) (p : Piece) (ss : List Fate) → allGot ss ≡ true → allGot (when b (got a p) ++ ss) ≡ true
+got-when true a p ss g = g
+got-when false a p ss g = g
+
+pub all-got : (v last : ℕ) (fs : List Framed) → allGot (fates v last (allArrive fs) fs) ≡ true
+all-got v last [] = refl
+all-got v last (f ∷ fs) = got-when (ofChannel v f) (last + 1) (pieceOf f) (fates v (last + 1) (allArrive fs) fs) (all-got v (last + 1) fs)
 
 -- ---- all is sent
 

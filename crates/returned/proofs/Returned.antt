@@ -19,11 +19,11 @@ use Rattle.delivery.specs.Expected.{piece, allGot, owners, expected}
 use Rattle.delivery.specs.Delivered.{Delivered}
 use Rattle.delivery.specs.Run.{reportsOf}
 use Rattle.delivery.specs.Demand.{Reception}
-use Rattle.delivery.proofs.NothingLost.{all-got}
+use Rattle.delivery.proofs.NothingLost.{no-gaps}
 use Rattle.delivery.proofs.OneChannel.{AllShort}
 use Rattle.delivery.proofs.Recording.{fates-pieces, all-short, demand-3}
 use Rattle.returned.specs.Returned.{Made, framesIn, octetsIn, Offered, Delivers, arrivalsOf, allBack, GivesBack, ArrivalsBySize}
-use Rattle.returned.proofs.Arrivals.{allArrive, kept-all, no-gaps, all-owned, owners-arrivals, Some, expected-back, by-size}
+use Rattle.returned.proofs.Arrivals.{allArrive, no-strays, all-got, all-owned, owners-arrivals, Some, expected-back, by-size}
 
 good-some : (ps : List (List ℕ)) → AllGood ps → Some ps
 good-some [] g = tt
@@ -33,7 +33,7 @@ rules : (m : Made) → sender.ByRules (m .t) (m .calls)
 rules m = calls-by-rules (m .t) (m .master) (m .counts) (m .calls) (m .small) (m .smallEach) (m .handedOn)
 
 pub delivers : Delivers
-delivers m link o gaps v l =
+delivers m link strays o v l gaps =
     let same : octetsIn m ≡ map (sentOctets (m .t)) (framesIn m) = rules m .octets in
     let offer : passed link (octetsIn m) ≡ arriving (m .t) link (framesIn m) = ap (passed link) same in
     let reception : Reception =
@@ -42,18 +42,19 @@ delivers m link o gaps v l =
       frames = framesIn m;
       sender = rules m .sender;
       link = link;
+      strays = strays;
       timeSize = o .timeSize;
       last = o .last;
       opened = o .opened;
       opens = o .opens;
-      gaps = gaps;
       calls = o .calls;
       offers = o .offers ∙ offer;
       runs = o .runs;
       numbers = omega (arith, o .numbers, ap length offer);
       room = o .room;
     } in
-    subst (λ (ps : List (List ℕ)). Delivered ps (fates v (o .last) link (framesIn m)) (reportsOf v (o .calls))) (rules m .packets v l) (demand-3 reception v l)
+    subst (λ (ps : List (List ℕ)). Delivered ps (fates v (o .last) link (framesIn m)) (reportsOf v (o .calls))) (rules m .packets v l)
+    (demand-3 reception v l gaps)
 
 -- without loss, the same is offered
 whole : (fs : List Framed) (xs : List (List ℕ)) → length xs ≡ length fs → map found xs ≡ passed (allArrive fs) xs
@@ -83,7 +84,7 @@ gives-back m o v l =
     let link : List Passing = allArrive fs in
     let ss : List Fate = fates v (o .last) link fs in
     let packets : List (List ℕ) = sender.packetsOn v (m .calls) in
-    let all : (u : ℕ) → allGot (fates u (o .last) link fs) ≡ true = λ u. all-got u (o .last) link fs (kept-all fs) in
+    let all : allGot ss ≡ true = all-got v (o .last) fs in
     let same : map found (octetsIn m) ≡ passed link (octetsIn m) =
     whole fs (octetsIn m) (ap length (rules m .octets) ∙ length-map fs (sentOctets (m .t))) in
     let s : Stream v fs = rules m .sender .streams v l in
@@ -93,9 +94,9 @@ gives-back m o v l =
     all-owned (s .packets) ss (s .choices) 0 (s .first) 0 (pieces ∙ s .sent)
     (subst AllShort (sym pieces) (all-short (m .t) v fs (rules m .sender .wellFormed)))
     (omega (arith, rules m .whole v l, ap (λ (ps : List (List ℕ)). length (joined ps)) own)) in
-    delivers m link (reoffered o same) (λ u k. no-gaps none (fates u (o .last) link fs) (all u) (omega arith)) v l .handed-out
+    delivers m link (no-strays (m .t) fs) (reoffered o same) v l (no-gaps none ss all (omega arith)) .handed-out
     ∙ ap (λ (ps : List (List ℕ)). expected ps ss) (sym own)
-    ∙ expected-back ss (all v) (s .packets) (owners 0 ss) (good-some (s .packets) (s .good)) (omega arith)
+    ∙ expected-back ss all (s .packets) (owners 0 ss) (good-some (s .packets) (s .good)) (omega arith)
     ∙ ap (allBack (s .packets)) (owners-arrivals v (o .last) fs)
     ∙ ap (λ (ps : List (List ℕ)). allBack ps (arrivalsOf v (o .last) fs)) own
 

@@ -14,8 +14,8 @@ use Rattle.stretch.specs.Stretch.{Stretch, found}
 use Rattle.sender.specs.Sender.{Framed, ofChannel, pieceOf}
 use Rattle.sender.specs.Frames.{packetsOf, framesOf}
 use Rattle.sender.specs.Calls as sender
-use Rattle.delivery.specs.Link.{Passing, passed, fates}
-use Rattle.delivery.specs.Expected.{carries, expectedLosses, AtMost, mostLost}
+use Rattle.delivery.specs.Link.{Passing, Strays, passed, fates}
+use Rattle.delivery.specs.Expected.{carries, FewLost}
 use Rattle.delivery.specs.Delivered.{handed, Delivered}
 use Rattle.delivery.specs.Run.{Call, Runs, Room, offerOf, reportsOf}
 
@@ -49,11 +49,11 @@ pub record Offered (t : ℕ) (offer : List Stretch) : Type 0 where
   pub numbers : last + length offer ≤ lastNumber
   pub room : Room calls
 
--- Demand 3 holds of them: over any link that loses at most 255 of a channel's frames between two arrivals on it.
+-- Demand 3 holds of them: over any link, with all that is refused between the frames, on each channel of whose frames the link loses at
+-- most 255 between two arrivals on it.
 abbrev pub Delivers : Type 0
-Delivers = (m : Made) (link : List Passing) (o : Offered (m .t) (passed link (octetsIn m)))
-    → ((v : ℕ) → v < virtualChannels → AtMost mostLost (expectedLosses (fates v (o .last) link (framesIn m))))
-    → (v : ℕ) → v < virtualChannels
+Delivers = (m : Made) (link : List Passing) → Strays (m .t) link → (o : Offered (m .t) (passed link (octetsIn m)))
+    → (v : ℕ) → v < virtualChannels → FewLost (fates v (o .last) link (framesIn m))
     → Delivered (sender.packetsOn v (m .calls)) (fates v (o .last) link (framesIn m)) (reportsOf v (o .calls))
 
 -- ---- without loss

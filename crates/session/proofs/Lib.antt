@@ -6,6 +6,7 @@ pub mod Following
 pub mod Going
 pub mod Joined
 pub mod Keeping
+pub mod Leaving
 pub mod Lending
 pub mod Soundness
 pub mod Staying

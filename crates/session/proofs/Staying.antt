@@ -25,7 +25,7 @@ use Rattle.session.specs.Lent.{Lent}
 use Rattle.session.specs.Open.{Opening, opened, opening}
 use Rattle.session.specs.Step.{Outcome, refusedAt, counted, channelAt, pieceOf, ruled, accepted, heeded, outcome, turnedAway}
 use Rattle.stretch.specs.Stretch.{Stretch, found, unread}
-use Rattle.session.specs.Statements.{offered, Offer, after, StaysSound}
+use Rattle.session.specs.Statements.{offered}
 use Rattle.session.specs.declared.Channel.{Channel}
 use Rattle.session.specs.declared.Session.{Session}
 use Rattle.session.proofs.Admitting.{admitted-picks, not-four}
@@ -80,10 +80,11 @@ pub opened-sound : (t last : ℕ) → t ≤ 8 → unsound (opened t last) ≡ fa
 unfolding unsound
 opened-sound t last l = simp (le-ltb _ _ l, fresh-passes)
 
-opening-sound : (t last : ℕ) → unsound (opening t last .session) ≡ false
+pub opening-sound : (t last : ℕ) → unsound (opening t last .session) ≡ false
 unfolding opening
 opening-sound t last =
-    picks (λ (o : Opening). unsound (o .session) ≡ false) (ltb 8 t) _ _ (λ e. opened-sound 0 0 (omega arith)) (λ e. opened-sound t last (ltb-false _ _ e))
+    picks (λ (o : Opening). unsound (o .session) ≡ false) _ _ _ (λ e. opened-sound 0 0 (omega arith))
+    (λ e. opened-sound t last (ltb-false _ _ e))
 
 -- ---- a step
 
@@ -129,12 +130,9 @@ offer-stays s (found x) l u = step-stays s x l u
 offer-stays s (unread n) l u =
     admitted-picks (Stays s) s l _ (λ a. counted-stays s _ (refused-stays (counted s) n 0 (counted-sound s u))) (λ m e. refused-stays s m 0 u)
 
-after-sound : (s : Session) (os : List Offer) → unsound s ≡ false → unsound (after s os) ≡ false
-after-sound s [] u = u
-after-sound s (o ∷ os) u = after-sound _ os (offer-stays s (o .stretch) (o .lent) u .sound)
-
 -- ---- the answer
 
+-- no refusal 4
 abbrev Other : Outcome → Type 0
 Other o = o .answer .refusal ≡ no.session → ⊥
 
@@ -143,12 +141,7 @@ unfolding accepted
 heeded-other s frame =
     picks Other (readFrame (s .t) frame .accepted) (accepted s _ _) (refusedAt s _ _) (λ a h. omega arith) (λ a. read-tells (s .t) frame .other)
 
-sound-answers : (s : Session) (frame : List ℕ) (l : Lent) → unsound s ≡ false → Other (outcome s frame l)
+pub sound-answers : (s : Session) (frame : List ℕ) (l : Lent) → unsound s ≡ false → Other (outcome s frame l)
 unfolding outcome
 sound-answers s frame l u =
     admitted-picks Other s l _ (λ a. heeded-other (counted s) frame) (λ n e h. not-four s l u (sym e ∙ h))
-
-pub stays-sound : StaysSound
-stays-sound t last offers =
-    let u = after-sound _ offers (opening-sound t last) in
-    record { bars = λ l. not-four _ l u; answers = λ x l. sound-answers _ x l u }

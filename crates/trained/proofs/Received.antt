@@ -23,8 +23,8 @@ use Rattle.session.specs.Lent.{Lent}
 use Rattle.session.specs.Step.{told}
 use Rattle.sender.specs.Sender.{AllWellFormed, Stream, Sender, when}
 use Rattle.sender.specs.Stream.{next}
-use Rattle.delivery.specs.Link.{Fate, fates}
-use Rattle.delivery.specs.Expected.{expectedLosses, AtMost, mostLost}
+use Rattle.delivery.specs.Link.{fates}
+use Rattle.delivery.specs.Expected.{FewLost}
 use Rattle.delivery.specs.Delivered.{Report, handed}
 use Rattle.delivery.specs.Run.{Call, Runs, readOut, answerOf, packetsOf, reportOf, took, reportsOf}
 use Rattle.delivery.specs.Demand.{Reception}
@@ -85,17 +85,17 @@ streams (suc v) l = record { packets = []; good = tt; choices = []; first = 0; s
 abbrev sender : Sender 2 recording
 sender = record { wellFormed = well-formed; master = 7; small = lit< tt; masters = alone-masters 7 pieces; streams = streams }
 
-gaps : (v : ℕ) → v < 8 → AtMost mostLost (expectedLosses (fates v 0 link recording))
-gaps zero l = (lit≤ tt, (lit≤ tt, tt))
-gaps (suc v) l = subst (λ (ss : List Fate). AtMost mostLost (expectedLosses ss)) (sym (no-fates v 0 link 7 pieces)) tt
-
 abbrev reception : Reception
-reception = receiving recording sender link gaps (lit≤ tt)
+reception = receiving recording sender link tt (lit≤ tt)
+
+none-of : (v : ℕ) → FewLost (fates (suc v) 0 link recording)
+none-of v = subst FewLost (sym (no-fates v 0 link 7 pieces)) tt
 
 all-of-it : handedOut (reception .calls) ≡ record { first = 1; arrival = 2; packet = packet 5 } ∷ []
 all-of-it =
-    only-zero (reception .calls) (reception .opened .session) (reception .runs) (λ v l. demand-3 reception (suc v) l .handed-out)
-    ∙ demand-3 reception 0 (lit< tt) .handed-out
+    only-zero (reception .calls) (reception .opened .session) (reception .runs)
+    (λ v l. demand-3 reception (suc v) l (none-of v) .handed-out)
+    ∙ demand-3 reception 0 (lit< tt) (lit≤ tt, (lit≤ tt, tt)) .handed-out
 
 pub received : Received
 unfolding part pick same checkWrong check lengthWrong readPacket widthsWrong badlyFormed stands against fault firstFault verdict

@@ -3,12 +3,12 @@ use Prim.Native.Nat.{ℕ, zero, suc, _+_, _-_, _≤_, _<_}
 use native.Mathlib.Decide.{decLt}
 use native.Mathlib.Omega.{arith}
 use mathlib.Core.Path.{_≡_, refl, sym, ap, _∙_, subst}
-use mathlib.Core.Bool.{Bool, true, false, false≢true}
-use mathlib.Core.List.{List, [], _∷_, _++_, append-assoc}
+use mathlib.Core.Bool.{Bool, true, false, _&&_, false≢true}
+use mathlib.Core.List.{List, [], _∷_, _++_, append-assoc, List·Memᴰ, Memᴰ·append-left, Memᴰ·append-right}
 use mathlib.Core.Option.{Option, none, some}
 use lib.ListN.{length, getElem?, length-append}
-use lib.Dec.{leb}
-use borrow.Author.Tests.{le-leb}
+use lib.Dec.{leb, eqb}
+use borrow.Author.Tests.{le-leb, eq-eqb}
 use Rattle.octets.specs.Pick.{pick}
 use Rattle.octets.proofs.Choices.{picked, picks}
 use Rattle.answer.specs.Told.{Told}
@@ -28,11 +28,13 @@ use Rattle.session.specs.Statements.{offered}
 use Rattle.session.proofs.Admitting.{admitted-picks}
 use Rattle.session.proofs.Few.{Few, offer-few}
 use Rattle.stretch.specs.Stretch.{Stretch, found, unread}
-use Rattle.delivery.specs.Run.{Call, Runs, readOut, answerOf, packetsOf}
+use Rattle.sender.specs.Sender.{when}
+use Rattle.delivery.specs.Delivered.{Report, handed}
+use Rattle.delivery.specs.Run.{Call, Runs, readOut, answerOf, packetsOf, reportOf, took, reportsOf}
 use Rattle.delivery.proofs.Calls.{read-back}
 use Rattle.training.specs.Table.{numbered}
-use Rattle.trained.specs.Trained.{handedOut, upTo, Teller}
-use Rattle.trained.proofs.Places.{front, back, nothing-there, under}
+use Rattle.trained.specs.Trained.{handedOut, upTo, Teller, channelOf}
+use Rattle.trained.proofs.Places.{front, back, nothing-there, member, under}
 
 -- What comes of an offer to s: no lower number, and a channel of eight if it is accepted.
 pub record Fair (s : Session) (o : Outcome) : Type 0 where
@@ -132,10 +134,16 @@ cut-known n (c ∷ cs) s w i h e l =
         let up : c .result .session .arrival ≤ n = omega (arith, no-lower cs (c .result .session) (w .1) (i - length (packetsOf c)) h f) in
         ap (λ (x : List Call). getElem? (handedOut x) i) (kept up) ∙ back (packetsOf c) (handedOut (upTo n cs)) i (omega (arith, m)) ∙ next f
 
--- the call that handed out packet n, and its number
+-- the call that handed out packet n, and its number and channel
 pub record Finds (calls : List Call) (n : ℕ) (h : Handed) : Type 0 where
   pub teller : Teller calls n h
   pub number : answerOf (teller .call) .fields .arrival ≡ h .arrival
+  pub virtual : channelOf (teller .call) < 8
+  pub among : List·Memᴰ h (handed (reportsOf (channelOf (teller .call)) calls))
+
+more-reports : (b : Bool) (r : Report) (rs : List Report) (h : Handed) → List·Memᴰ h (handed rs) → List·Memᴰ h (handed (when b r ++ rs))
+more-reports true r rs h m = Memᴰ·append-right (r .packets) m
+more-reports false r rs h m = m
 
 finds : (cs : List Call) (s : Session) → Runs s cs → (i : ℕ) (h : Handed) → getElem? (handedOut cs) i ≡ some h → Finds cs (suc i) h
 finds [] s w i h e = nothing-there e
@@ -145,17 +153,21 @@ finds (c ∷ cs) s w i h e =
     by : Dec (i < length (packetsOf c)) → (length (packetsOf c) ≤ i → Finds cs (suc (i - length (packetsOf c))) h) → Finds (c ∷ cs) (suc i) h
     by (yes l) next =
         let f = sym (front (packetsOf c) (handedOut cs) i l) ∙ e in
+        let a = was-accepted s c (w .0) i h f in
+        let t : took (channelOf c) c ≡ true = simp (a, eq-eqb (channelOf c) (channelOf c) refl) in
         record {
           teller = record {
             before = [];
             call = c;
             behind = cs;
             cut = refl;
-            accepted = was-accepted s c (w .0) i h f;
+            accepted = a;
             later = omega arith;
             told = f;
           };
           number = number-told s c (w .0) i h f;
+          virtual = of-eight s c (w .0) a;
+          among = rw t (Memᴰ·append-left (handed (reportsOf (channelOf c) cs)) (member (packetsOf c) i h f));
         }
     by (no l) next =
         let n : length (packetsOf c) ≤ i = omega (arith, l) in
@@ -172,6 +184,8 @@ finds (c ∷ cs) s w i h e =
                 ∙ back (packetsOf c) (handedOut (t .before) ++ packetsOf (t .call)) i n ∙ t .told;
           };
           number = next n .number;
+          virtual = next n .virtual;
+          among = more-reports (took (channelOf (t .call)) c) (reportOf c) (reportsOf (channelOf (t .call)) cs) h (next n .among);
         }
 
 pub finds-numbered : (cs : List Call) (s : Session) → Runs s cs → (n : ℕ) (h : Handed) → numbered (handedOut cs) n ≡ some h → Finds cs n h

@@ -1,65 +1,20 @@
 -- What is handed out was sent, whole.
-use Prim.Native.Nat.{ℕ, zero, suc, _+_, _-_, _≤_, _<_}
-use native.Mathlib.Decide.{decLt}
-use native.Mathlib.Omega.{arith}
+use Prim.Native.Nat.{ℕ, _+_, _-_, _≤_}
 use mathlib.Core.Path.{_≡_, refl, sym, ap, _∙_, subst}
 use mathlib.Core.Logic.{inl, inr, ⊎-elim}
-use mathlib.Core.Bool.{Bool, true, false, cond, _&&_}
-use mathlib.Core.List.{List, [], _∷_, _++_, append-nil, append-assoc, List·Memᴰ, List·Memᴰ·not-nil, List·Memᴰ·append-cases, List·Memᴰ·eq-of-singleton, Memᴰ·append-left, Memᴰ·append-right}
-use mathlib.Core.Option.{some}
-use lib.ListN.{length, drop, getD, getElem?, length-append}
+use mathlib.Core.Bool.{Bool, true, false, cond}
+use mathlib.Core.List.{List, [], _∷_, _++_, append-nil, append-assoc}
+use mathlib.Core.List.{List·Memᴰ, List·Memᴰ·not-nil, List·Memᴰ·append-cases, List·Memᴰ·eq-of-singleton}
+use lib.ListN.{length, drop, getD, length-append}
 use lib.Seq.{drop-drop}
-use lib.Dec.{leb, eqb}
-use borrow.Author.Tests.{leb-true, eq-eqb}
+use lib.Dec.{leb}
+use borrow.Author.Tests.{leb-true}
 use Rattle.rules.specs.Channel.{Handed}
 use Rattle.rules.specs.Packets.{joined}
-use Rattle.session.specs.declared.Session.{Session}
 use Rattle.sender.specs.Sender.{when}
 use Rattle.delivery.specs.Link.{Fate}
 use Rattle.delivery.specs.Expected.{owners, arrived, arrivalAt, expectedFrom, expected}
-use Rattle.delivery.specs.Delivered.{Report, handed}
-use Rattle.delivery.specs.Run.{Call, Runs, answerOf, packetsOf, reportOf, took, reportsOf}
-use Rattle.training.specs.Table.{numbered}
-use Rattle.trained.specs.Trained.{handedOut, carriers, Whole}
-use Rattle.trained.proofs.Places.{front, back, nothing-there, member}
-use Rattle.trained.proofs.Runs.{of-eight, was-accepted}
-
--- on which channel it was handed out
-pub record OnChannel (cs : List Call) (h : Handed) : Type 0 where
-  pub channel : ℕ
-  pub virtual : channel < 8
-  pub among : List·Memᴰ h (handed (reportsOf channel cs))
-
-more-reports : (b : Bool) (r : Report) (rs : List Report) (h : Handed) → List·Memᴰ h (handed rs) → List·Memᴰ h (handed (when b r ++ rs))
-more-reports true r rs h m = Memᴰ·append-right (r .packets) m
-more-reports false r rs h m = m
-
-on-channel : (cs : List Call) (s : Session) → Runs s cs → (i : ℕ) (h : Handed) → getElem? (handedOut cs) i ≡ some h → OnChannel cs h
-on-channel [] s w i h e = nothing-there e
-on-channel (c ∷ cs) s w i h e =
-    by (decLt _ _) (λ l. on-channel cs (c .result .session) (w .1) (i - length (packetsOf c)) h (sym (back (packetsOf c) (handedOut cs) i l) ∙ e))
-  where
-    by : Dec (i < length (packetsOf c)) → (length (packetsOf c) ≤ i → OnChannel cs h) → OnChannel (c ∷ cs) h
-    by (yes l) next =
-        let f = sym (front (packetsOf c) (handedOut cs) i l) ∙ e in
-        let a = was-accepted s c (w .0) i h f in
-        let t : took (answerOf c .fields .channel) c ≡ true = simp (a, eq-eqb (answerOf c .fields .channel) (answerOf c .fields .channel) refl) in
-        record {
-          channel = answerOf c .fields .channel;
-          virtual = of-eight s c (w .0) a;
-          among = rw t (Memᴰ·append-left (handed (reportsOf (answerOf c .fields .channel) cs)) (member (packetsOf c) i h f));
-        }
-    by (no l) next =
-        let n = next (omega (arith, l)) in
-        record {
-          channel = n .channel;
-          virtual = n .virtual;
-          among = more-reports (took (n .channel) c) (reportOf c) (reportsOf (n .channel) cs) h (n .among);
-        }
-
-pub channel-of : (cs : List Call) (s : Session) → Runs s cs → (n : ℕ) (h : Handed) → numbered (handedOut cs) n ≡ some h → OnChannel cs h
-channel-of cs s w zero h e = nothing-there e
-channel-of cs s w (suc i) h e = on-channel cs s w i h e
+use Rattle.trained.specs.Trained.{carriers, Whole}
 
 joined-last : (ps : List (List ℕ)) (p : List ℕ) → joined (ps ++ p ∷ []) ≡ joined ps ++ p
 joined-last [] p = append-nil p

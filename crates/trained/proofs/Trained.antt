@@ -7,16 +7,16 @@ use mathlib.Core.Option.{Option, none, some}
 use lib.ListN.{getElem?}
 use Rattle.rules.specs.Channel.{Handed}
 use Rattle.session.specs.declared.Session.{Session}
-use Rattle.delivery.specs.Link.{fates}
 use Rattle.delivery.specs.Run.{Call, Runs, answerOf}
 use Rattle.delivery.proofs.Recording.{demand-3}
 use Rattle.training.specs.Table.{Column, Row, columnsOf, rowsOf, numbered}
 use Rattle.training.specs.Statements.{Right, AllRight}
 use Rattle.training.proofs.Rights.{exactly}
-use Rattle.trained.specs.Trained.{handedOut, upTo, PassedRow, Reading, Known, KnownAtTheClaim, Teller, NotBefore, NeverBefore, Sent, SentWhole}
+use Rattle.trained.specs.Trained.{handedOut, upTo, PassedRow, Reading, Known, KnownAtTheClaim, Teller, NotBefore, NeverBefore}
+use Rattle.trained.specs.Trained.{channelOf, fatesOn, Sent, SentWhole}
 use Rattle.trained.proofs.Places.{nothing-there, same-there}
 use Rattle.trained.proofs.Runs.{finds-numbered, known-numbered}
-use Rattle.trained.proofs.Sent.{channel-of, whole-of}
+use Rattle.trained.proofs.Sent.{whole-of}
 
 -- a row that is right, behind some row
 record RightRow (columns : List Column) (packets : List Handed) (r : Row) : Type 0 where
@@ -80,13 +80,14 @@ never-before s calls w table p =
 pub sent-whole : SentWhole
 sent-whole r table p =
     let h = its-packet table (r .calls) p in
-    let c = channel-of (r .calls) (r .opened .session) (r .runs) (p .row .packet) h (its-number table (r .calls) p) in
+    let t = finds-numbered (r .calls) (r .opened .session) (r .runs) (p .row .packet) h (its-number table (r .calls) p) in
+    let v = channelOf (t .teller .call) in
     record {
       packet = h;
       reading = reading-in table (r .calls) p (handedOut (r .calls)) (its-number table (r .calls) p);
-      channel = c .channel;
-      virtual = c .virtual;
-      whole = whole-of (r .sender .streams (c .channel) (c .virtual) .packets) (fates (c .channel) (r .last) (r .link) (r .frames)) h
-          (subst (List·Memᴰ h) (demand-3 r (c .channel) (c .virtual) .handed-out) (c .among));
+      teller = t .teller;
+      virtual = t .virtual;
+      whole = λ few. whole-of (r .sender .streams v (t .virtual) .packets) (fatesOn r v) h
+          (subst (List·Memᴰ h) (demand-3 r v (t .virtual) few .handed-out) (t .among));
       claim = its-claim table (r .calls) p;
     }

@@ -14,7 +14,7 @@ use Rattle.rules.specs.Channel.{Handed}
 use Rattle.rules.specs.Packets.{joined}
 use Rattle.session.specs.declared.Session.{Session}
 use Rattle.delivery.specs.Link.{Fate, fates}
-use Rattle.delivery.specs.Expected.{owners, arrived, arrivalAt}
+use Rattle.delivery.specs.Expected.{owners, arrived, arrivalAt, FewLost}
 use Rattle.delivery.specs.Run.{Call, Runs, answerOf, packetsOf}
 use Rattle.delivery.specs.Demand.{Reception}
 use Rattle.training.specs.Table.{Column, Row, columnsOf, rowsOf, numbered, verdict}
@@ -91,13 +91,22 @@ pub record Whole (packets : List (List ℕ)) (fates : List Fate) (h : Handed) : 
   pub first : h .first ≡ arrivalAt fates (carriers before fates) 0
   pub last : h .arrival ≡ arrivalAt fates (carriers before fates) (length (h .packet) - 1)
 
--- The value stood in a packet that was sent, whole, and was known at the claim.
+-- The channel of the frame that a call took, and the fates of a channel's frames in a reception.
+abbrev pub channelOf : Call → ℕ
+channelOf c = answerOf c .fields .channel
+
+abbrev pub fatesOn : Reception → ℕ → List Fate
+fatesOn r v = fates v (r .last) (r .link) (r .frames)
+
+-- The value stood in a packet that the frame that told it completed, and it was known at the claim. If the link lost at most 255 of that
+-- frame's channel between two arrivals on it, the packet was sent on that channel, and arrived whole.
 pub record Sent (r : Reception) (table : List ℕ) (x : Row) : Type 0 where
   pub packet : Handed
   pub reading : Reading table (handedOut (r .calls)) x packet
-  pub channel : ℕ
-  pub virtual : channel < virtualChannels
-  pub whole : Whole (r .sender .streams channel virtual .packets) (fates channel (r .last) (r .link) (r .frames)) packet
+  pub teller : Teller (r .calls) (x .packet) packet
+  pub virtual : channelOf (teller .call) < virtualChannels
+  pub whole : FewLost (fatesOn r (channelOf (teller .call)))
+      → Whole (r .sender .streams (channelOf (teller .call)) virtual .packets) (fatesOn r (channelOf (teller .call))) packet
   pub claim : packet .arrival ≤ x .claim
 
 abbrev pub SentWhole : Type 0
