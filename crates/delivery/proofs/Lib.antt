@@ -17,3 +17,4 @@ pub mod Lending
 pub mod Witness
 pub mod MostLost
 pub mod MostHeaders
+pub mod Apart

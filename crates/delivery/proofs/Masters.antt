@@ -132,7 +132,7 @@ turned-by s c cs x n octet e u w i =
     }
 
 module _ (s : Session) (c : Call) (cs : List Call) (u : unsound s ≡ false) (w : Runs s (c ∷ cs)) (k : Room (c ∷ cs))
-  (l : s .arrival < lastNumber) where
+    (l : s .arrival < lastNumber) where
   more : eqb (s .arrival) lastNumber ≡ false
   more = ne-eqb (s .arrival) lastNumber (λ z. omega arith)
 

@@ -27,7 +27,7 @@ abbrev allRight : ℕ → List Framed → Bool
 allRight t [] = true
 allRight t (f ∷ fs) = not (fieldsWrong (f .fields) t (length (f .«data»)) (length (f .time))) && allRight t fs
 
-all-right : (t : ℕ) (fs : List Framed) → allRight t fs ≡ true → AllWellFormed t fs
+pub all-right : (t : ℕ) (fs : List Framed) → allRight t fs ≡ true → AllWellFormed t fs
 all-right t [] e = tt
 all-right t (f ∷ fs) e =
     let wrong : Bool = fieldsWrong (f .fields) t (length (f .«data»)) (length (f .time)) in

@@ -18,7 +18,7 @@ pub record Reception : Type 0 where
   pub t : ℕ
   pub frames : List Framed
   pub sender : Sender t frames
-  -- The link may lose frames but not alter, repeat or reorder them; between them may come what none of them is: all that is refused.
+  -- The link may lose frames but not alter, repeat or reorder them; between them may come stretches that are refused.
   pub link : List Passing
   pub strays : Strays t link
   -- One fresh session of the right time size, as `Session::open` promises it, under any last arrival number used (0: a fresh one).

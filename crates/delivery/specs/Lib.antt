@@ -10,3 +10,4 @@ pub mod Shams
 pub mod Witness
 pub mod MostLost
 pub mod MostHeaders
+pub mod Apart

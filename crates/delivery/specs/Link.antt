@@ -18,13 +18,13 @@ pub data Passing : Type 0 where
   arrives loses : Passing
   noise : Stretch → Passing
 
--- Such a stretch: one that was refused before any frame could be read (16 to 19), or octets that the frame reader refuses (10 to 15, 120
--- to 123): noise, another station's frame, a frame that was damaged on its way.
+-- Such a stretch: one that was refused before any frame could be read (16 to 19), or octets that the frame reader refuses (10, 11, 120 to
+-- 123, 13 to 15): noise, a frame that was damaged on its way, what another station sent in a form of its own.
 abbrev pub Stray : ℕ → Stretch → Type 0
 Stray t (found x) = readFrame t x .accepted ≡ false
 Stray t (unread n) = Unit {0}
 
--- All stretches of a link that no frame of the sender's is.
+-- Every stretch of the link that is none of the sender's frames is such a one.
 abbrev pub Strays : ℕ → List Passing → Type 0
 Strays t [] = Unit {0}
 Strays t (arrives ∷ link) = Strays t link

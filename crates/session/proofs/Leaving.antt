@@ -1,10 +1,11 @@
 -- What a refused call leaves, over the contracts that Rattle generates of the calls.
 use Prim.Native.Nat.{ℕ, _+_}
 use mathlib.Core.Path.{_≡_, refl, sym, ap, _∙_}
-use mathlib.Core.Bool.{true, false, true≢false}
+use mathlib.Core.Bool.{Bool, true, false, true≢false}
 use mathlib.Core.List.{List, []}
 use lib.Dec.{eqb}
 use denote.Ref.{now}
+use Rattle.octets.specs.Pick.{pick}
 use Rattle.octets.proofs.Choices.{picks}
 use Rattle.answer.specs.Told.{Told}
 use Rattle.answer.specs.Refusals as no
@@ -68,16 +69,21 @@ abbrev IfRefused : Session → Outcome → Type 0
 IfRefused s o = o .answer .accepted ≡ false → Leaves s o
 
 heeded-leaves : (s : Session) (x : List ℕ) → IfRefused s (heeded (counted s) x (readFrame (s .t) x))
-unfolding accepted
-heeded-leaves s x =
-    picks (IfRefused s) (readFrame (s .t) x .accepted) _ _ (λ a h. absurd (true≢false h))
-    (λ a h. record {
-      handed = refl;
-      counted = refl;
-      same = λ b. absurd (true≢false (sym b ∙ read-others (s .t) x a));
-      next = λ b. refl;
-    })
+unfolding accepted pick
+heeded-leaves s x = by (readFrame (s .t) x .accepted) refl
+  where
+    by : (b : Bool) → readFrame (s .t) x .accepted ≡ b → IfRefused s (heeded (counted s) x (readFrame (s .t) x))
+    by true a h = let z : true ≡ false = rw a at h in absurd (true≢false z)
+    by false a h =
+        let other : nothingTakenUp (readFrame (s .t) x .refusal) ≡ false = read-others (s .t) x a in
+        record {
+          handed = rw a;
+          counted = rw a;
+          same = λ g. let z : nothingTakenUp (readFrame (s .t) x .refusal) ≡ true = rw a at g in absurd (true≢false (sym z ∙ other));
+          next = λ g. rw a;
+        }
 
+-- the gate lets through what is refused afterwards, or refuses itself
 admitted-leaves : (s : Session) (l : Lent) (o : Outcome) → IfRefused s o → IfRefused s (admitted s l o)
 admitted-leaves s l o p =
     picks (IfRefused s) (eqb (barred s l) 0) o _ (λ e. p)
@@ -93,10 +99,24 @@ unfolding outcome
 step-leaves-so s x l = admitted-leaves s l _ (heeded-leaves s x)
 
 turn-leaves-so : (s : Session) (n : ℕ) (l : Lent) → nothingTakenUp n ≡ false → IfRefused s (turnedAway s n l)
-unfolding turnedAway
-turn-leaves-so s n l b =
-    admitted-leaves s l _
-    (λ h. record { handed = refl; counted = refl; same = λ c. absurd (true≢false (sym c ∙ b)); next = λ c. refl })
+unfolding turnedAway pick
+turn-leaves-so s n l own = by (eqb (barred s l) 0) refl
+  where
+    by : (b : Bool) → eqb (barred s l) 0 ≡ b → IfRefused s (turnedAway s n l)
+    by true e h =
+        record {
+          handed = rw e;
+          counted = rw e;
+          same = λ g. let z : nothingTakenUp n ≡ true = rw e at g in absurd (true≢false (sym z ∙ own));
+          next = λ g. rw e;
+        }
+    by false e h =
+        record {
+          handed = rw e;
+          counted = rw e;
+          same = λ g. rw e;
+          next = λ g. let z : nothingTakenUp (barred s l) ≡ false = rw e at g in absurd (true≢false (sym (barred-so s l e) ∙ z));
+        }
 
 turn-refused : (s : Session) (n : ℕ) (l : Lent) → turnedAway s n l .answer .accepted ≡ false
 unfolding turnedAway

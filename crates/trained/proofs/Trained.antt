@@ -12,8 +12,8 @@ use Rattle.delivery.proofs.Recording.{demand-3}
 use Rattle.training.specs.Table.{Column, Row, columnsOf, rowsOf, numbered}
 use Rattle.training.specs.Statements.{Right, AllRight}
 use Rattle.training.proofs.Rights.{exactly}
-use Rattle.trained.specs.Trained.{handedOut, upTo, PassedRow, Reading, Known, KnownAtTheClaim, Teller, NotBefore, NeverBefore, channelOf, fatesOn,
-  Sent, SentWhole}
+use Rattle.trained.specs.Trained.{handedOut, upTo, PassedRow, Reading, Known, KnownAtTheClaim, Teller, NotBefore, NeverBefore}
+use Rattle.trained.specs.Trained.{channelOf, fatesOn, Sent, SentWhole}
 use Rattle.trained.proofs.Places.{nothing-there, same-there}
 use Rattle.trained.proofs.Runs.{finds-numbered, known-numbered}
 use Rattle.trained.proofs.Sent.{whole-of}
