@@ -46,7 +46,8 @@ bitsLines = workedLines (49 ∷ 55 ∷ []) (49 ∷ 54 ∷ []) (49 ∷ 49 ∷ [])
 
 -- With a time of two octets, in whatever pieces the stream comes (listing's `PiecesAreListed`), and whether it has ended or not.
 abbrev pub ListsTo : Source → List ℕ → List ℕ → Type 0
-ListsTo s stream text = (kept : List ℕ) (ended : Bool) → length kept ≡ mostKept → header ++ toCome (freshStream s 2) kept stream ended ≡ text
+ListsTo s stream text = (kept : List ℕ) (ended : Bool) → length kept ≡ mostKept
+    → header ++ toCome (freshStream s 2) kept stream ended ≡ text
 
 pub record WorkedListing : Type 0 where
   pub of-kiss : ListsTo freshKiss kissStream kissLines
