@@ -8,8 +8,8 @@ use Rattle.session.specs.Lent.{Lent}
 use Rattle.session.specs.Statements.{offered}
 use Rattle.session.specs.declared.Session.{Session}
 use Rattle.sender.specs.Sender.{Framed, Sender}
-use Rattle.delivery.specs.Link.{Passing, arrives, loses, noise, arriving, fates}
-use Rattle.delivery.specs.Expected.{expectedLosses, AtMost, mostLost}
+use Rattle.delivery.specs.Link.{Passing, Strays, arrives, loses, noise, arriving, fates}
+use Rattle.delivery.specs.Expected.{FewLost}
 use Rattle.delivery.specs.Delivered.{Delivered}
 use Rattle.delivery.specs.Run.{reportsOf}
 use Rattle.returned.specs.Returned.{Offered}
@@ -20,13 +20,22 @@ module _ (held : List ℕ → List Stretch) (Tells : List ℕ → List Stretch �
   abbrev pub Faithful : Type 0
   Faithful = (stream : List ℕ) (told : List Stretch) → Tells stream told → told ≡ map clipped (held stream)
 
-  -- If a stream holds what a link leaves of a sender's frames, and a session is offered what the reader tells of it, demand 3 holds.
+  -- If a stream holds what a link leaves of a sender's frames, with stretches between them that are refused before any frame could be
+  -- read or that the frame reader turns away, and a session is offered what the reader tells of it, demand 3 holds.
   abbrev pub Carries : Type 0
   Carries =
-      (t : ℕ) (frames : List Framed) (sender : Sender t frames) (link : List Passing) (stream : List ℕ) (told : List Stretch)
-      → held stream ≡ arriving t link frames → Tells stream told → (o : Offered t told)
-      → ((v : ℕ) → v < virtualChannels → AtMost mostLost (expectedLosses (fates v (o .last) link frames)))
-      → (v : ℕ) (l : v < virtualChannels) → Delivered (sender .streams v l .packets) (fates v (o .last) link frames) (reportsOf v (o .calls))
+      (t : ℕ) (frames : List Framed) (sender : Sender t frames) (link : List Passing) → Strays t link
+      → (stream : List ℕ) (told : List Stretch) → held stream ≡ arriving t link frames → Tells stream told → (o : Offered t told)
+      → (v : ℕ) (l : v < virtualChannels) → FewLost (fates v (o .last) link frames)
+      → Delivered (sender .streams v l .packets) (fates v (o .last) link frames) (reportsOf v (o .calls))
+
+-- What some scans tell of a stream: every stream can be read.
+pub record Read (Tells : List ℕ → List Stretch → Type 0) (stream : List ℕ) : Type 0 where
+  pub told : List Stretch
+  pub tells : Tells stream told
+
+abbrev pub Readable : (List ℕ → List Stretch → Type 0) → Type 0
+Readable Tells = (stream : List ℕ) → Read Tells stream
 
 -- Octets beyond those that a reader keeps change nothing of what comes of an offer.
 abbrev pub ClippedAlike : Type 0
@@ -37,4 +46,4 @@ abbrev pub Quiet : List Passing → Type 0
 Quiet [] = Unit {0}
 Quiet (arrives ∷ link) = Quiet link
 Quiet (loses ∷ link) = Quiet link
-Quiet (noise n ∷ link) = ⊥
+Quiet (noise x ∷ link) = ⊥

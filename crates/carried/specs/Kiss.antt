@@ -1,23 +1,25 @@
 -- KISS streams.
-use Prim.Native.Nat.{ℕ, _<_}
+use Prim.Native.Nat.{ℕ, _≤_, _<_}
 use mathlib.Core.Path.{_≡_}
 use mathlib.Core.List.{List, [], _∷_, map}
 use lib.ListN.{length, take}
 use Rattle.octets.specs.Numbers.{at}
 use Rattle.answer.specs.Refusals as no
-use Rattle.rules.specs.Packets.{cut}
+use Rattle.frame.specs.Limits.{longestTime}
+use Rattle.rules.specs.Packets.{cut, total}
 use Rattle.stretch.specs.Stretch.{Stretch, clipped, mostKept}
 use Rattle.session.specs.Lent.{Lent}
 use Rattle.session.specs.Statements.{offered}
 use Rattle.session.specs.declared.Session.{Session}
-use Rattle.sender.specs.Sender.{Framed, sentOctets}
+use Rattle.sender.specs.Sender.{Framed, sentOctets, Sender}
 use Rattle.delivery.specs.Link.{Passing, kept, arriving}
 use Rattle.kiss.specs.Stream.{stretchesIn}
 use Rattle.kiss.specs.Reader.{standing, fresh}
 use Rattle.kiss.specs.Statements.{Scans, joined}
-use Rattle.kiss_export.specs.Export.{Exports}
+use Rattle.kiss_export.specs.Export.{streamOf, Exports}
+use Rattle.kiss_export.specs.declared.Exported.{Exported}
 use Rattle.kiss_export.specs.declared.Exported.the-variants.{Length}
-use Rattle.carried.specs.Carried.{Faithful, Carries, Quiet}
+use Rattle.carried.specs.Carried.{Faithful, Carries, Readable, Quiet}
 
 -- What scans by a new reader tell of a stream in some pieces.
 pub record InPieces (stream : List ℕ) (told : List Stretch) : Type 0 where
@@ -33,6 +35,9 @@ KissFaithful = Faithful stretchesIn InPieces
 abbrev pub KissCarries : Type 0
 KissCarries = Carries stretchesIn InPieces
 
+abbrev pub KissReadable : Type 0
+KissReadable = Readable InPieces
+
 -- If an export is lent the frames that arrive, what it leaves holds what the link leaves.
 abbrev pub ExportsCarry : Type 0
 ExportsCarry =
@@ -40,6 +45,15 @@ ExportsCarry =
     → (octets lengths out : List ℕ) (n : ℕ) (out′ : List ℕ) → ((i : ℕ) → at octets i < 256)
     → cut octets lengths ≡ map (sentOctets t) (kept link frames) → Exports t octets lengths out (Length n) out′
     → stretchesIn (take n out′) ≡ arriving t link frames
+
+-- No frame that arrives from a sender is refused: with room for the stream, the export of those that arrive answers its length.
+abbrev pub SentAreTaken : Type 0
+SentAreTaken =
+    (t : ℕ) → t ≤ longestTime → (frames : List Framed) → Sender t frames
+    → (link : List Passing) (octets lengths out : List ℕ) (r : Exported) (out′ : List ℕ)
+    → total lengths ≡ length octets → cut octets lengths ≡ map (sentOctets t) (kept link frames)
+    → length (streamOf (cut octets lengths)) ≤ length out → Exports t octets lengths out r out′
+    → r ≡ Length (length (streamOf (cut octets lengths)))
 
 -- What holds of each of some stretches.
 abbrev pub Each : (Stretch → Type 0) → List Stretch → Type 0

@@ -36,8 +36,8 @@ no-last-line s xs true = append-nil (itemsText s (map offers xs))
 no-last-line s xs false = append-nil (itemsText s (map offers xs))
 
 -- a source that finds what the stream holds, as far as it is kept
-lists : (s : Source) (holds : List ℕ → List Stretch) → ((kept octets : List ℕ) → length kept ≡ mostKept → foundIn s kept octets ≡ ofStream (map clipped (holds octets)))
-    → Lists s holds
+lists : (s : Source) (holds : List ℕ → List Stretch)
+    → ((kept octets : List ℕ) → length kept ≡ mostKept → foundIn s kept octets ≡ ofStream (map clipped (holds octets))) → Lists s holds
 lists s holds found t kept octets ended h =
     ap (λ (text : List ℕ). header ++ text)
     (ap (λ (f : Found). listed (opening t 0 .session) f ended) (found kept octets h)
