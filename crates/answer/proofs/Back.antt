@@ -1,37 +1,51 @@
--- Demand 2 over the calls of a format, from the same over its definitions.
+-- Demand 2 over the calls of a format, from the same over the definitions that their contracts cite.
 use Prim.Native.Nat.{ℕ, _<_}
 use mathlib.Core.Path.{_≡_, sym, ap, subst, _∙_}
 use mathlib.Core.List.{List}
 use mathlib.Core.Bool.{false}
 use lib.ListN.{length, take}
 use Rattle.octets.specs.Numbers.{at}
-use Rattle.answer.specs.Told.{accept}
-use Rattle.answer.specs.Writer.{Gave}
-use Rattle.answer.specs.Back.{Format, CallsReadBack, CallsWriteBack}
-use Rattle.answer.proofs.Writer.{gives}
+use Rattle.answer.specs.Told.{Told, accept}
+use Rattle.answer.specs.Writer.{Wrote, Gave}
+use Rattle.answer.specs.Back.{Format, CallsBack}
+use Rattle.answer.specs.declared.Written.{Written}
+use Rattle.answer.proofs.Writer.{gives, wrote-right}
 
-module _ {A B R : Type 0} (f : Format A B R) (tells : (a : A) → f .told (f .accepting a) ≡ accept a) where
-  -- what the definitions read back, the calls do
-  pub calls-read-back : ((x y : R) → f .told x ≡ f .told y → x ≡ y)
-      → ((a : A) (b : B) → f .wrong a b ≡ false
-      → (f .reading (f .octets a b) ≡ accept a) × (f .beside a (f .octets a b) ≡ b))
-      → CallsReadBack f
-  calls-read-back apart back a b out r out′ right room w =
-      let g = gives (f .wrong a b) (f .octets a b) out r out′ right room w in
-      let k = back a b right in
-      record {
-        n = length (f .octets a b);
-        answers = g .answers;
-        fields = λ q h. apart q (f .accepting a) (h ∙ ap (f .reading) (g .leaves) ∙ k .0 ∙ sym (tells a));
-        others = ap (f .beside a) (g .leaves) ∙ k .1;
-      }
+-- what the calls of a format promise, by definitions that undo one another
+pub record Defined {A B R : Type 0} (f : Format A B R) : Type 0 where
+  pub told : R → Told A
+  pub reading : List ℕ → Told A
+  pub beside : A → List ℕ → B
+  -- the calls' contracts
+  pub writes : {a : A} {b : B} {out : List ℕ} {r : Written} {out′ : List ℕ} → f .Writes a b out r out′
+      → Wrote (f .wrong a b) (f .octets a b) out r out′
+  pub reads : {s : List ℕ} {q : R} → f .Reads s q → told q ≡ reading s
+  pub finds : {a : A} {s : List ℕ} {b : B} → f .Finds a s b → b ≡ beside a s
+  -- no two answers are told alike
+  pub tells : (a : A) → told (f .accepting a) ≡ accept a
+  pub apart : (x y : R) → told x ≡ told y → x ≡ y
+  -- the definitions undo one another
+  pub reads-back : (a : A) (b : B) → f .wrong a b ≡ false
+      → (reading (f .octets a b) ≡ accept a) × (beside a (f .octets a b) ≡ b)
+  pub writes-back : (s : List ℕ) (a : A) → ((i : ℕ) → at s i < 256) → reading s ≡ accept a
+      → (f .wrong a (beside a s) ≡ false) × (f .octets a (beside a s) ≡ s)
 
-  -- what the definitions write back, the calls do
-  pub calls-write-back : ((s : List ℕ) (a : A) → ((i : ℕ) → at s i < 256) → f .reading s ≡ accept a
-      → (f .wrong a (f .beside a s) ≡ false) × (f .octets a (f .beside a s) ≡ s))
-      → CallsWriteBack f
-  calls-write-back back s a octet h out r out′ room w =
-      let k = back s a octet (sym h ∙ tells a) in
-      let b : B = f .beside a s in
-      subst (λ (x : List ℕ). Gave x r out′) (k .1)
-      (gives (f .wrong a b) (f .octets a b) out r out′ (k .0) (rw (k .1) room) w)
+pub calls-back : {A B R : Type 0} (f : Format A B R) → Defined f → CallsBack f
+calls-back {B = B} f d =
+    record {
+      takes = λ a b out r out′ right room w. gives (f .wrong a b) (f .octets a b) out r out′ right room (d .writes w) .answers;
+      reads = λ a b out n out′ w.
+          let g = wrote-right (d .writes w) in
+          let k = d .reads-back a b (g .0) in
+          record {
+            fields = λ q h. d .apart q (f .accepting a) (d .reads h ∙ ap (d .reading) (g .1) ∙ k .0 ∙ sym (d .tells a));
+            others = λ c h. d .finds h ∙ ap (d .beside a) (g .1) ∙ k .1;
+          };
+      writes = λ s a b octet h e out r out′ room w.
+          let k = d .writes-back s a octet (sym (d .reads h) ∙ d .tells a) in
+          let c : B = d .beside a s in
+          let w′ : Wrote (f .wrong a c) (f .octets a c) out r out′ =
+          subst (λ (x : B). Wrote (f .wrong a x) (f .octets a x) out r out′) (d .finds e) (d .writes w) in
+          subst (λ (x : List ℕ). Gave x r out′) (k .1)
+          (gives (f .wrong a c) (f .octets a c) out r out′ (k .0) (rw (k .1) room) w′);
+    }

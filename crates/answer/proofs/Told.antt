@@ -1,8 +1,9 @@
 -- What two answers that are told alike have in common.
 use Prim.Native.Nat.{ℕ}
-use mathlib.Core.Path.{_≡_, ap}
+use mathlib.Core.Path.{_≡_, sym, ap, _∙_}
+use mathlib.Core.List.{List}
 use mathlib.Core.Bool.{true≢false, false≢true}
-use Rattle.answer.specs.Told.{Told, accept, refuse, refuseAt}
+use Rattle.answer.specs.Told.{Told, accept, refuse, refuseAt, NoneLeftOut}
 use Rattle.answer.specs.declared.Refusal.{Refusal}
 
 -- equal values are told alike
@@ -29,3 +30,7 @@ accept-or-refuse {A} h = absurd (true≢false (ap (λ (t : Told A). t .accepted)
 
 pub refuse-or-accept : {A B : Type 0} {a none : A} {n octet : ℕ} → refuseAt none n octet ≡ accept a → B
 refuse-or-accept {A} h = absurd (false≢true (ap (λ (t : Told A). t .accepted) h))
+
+-- numbers from which the value can be had back leave no field out
+pub had-back : {A : Type 0} {numbers : A → List ℕ} (from : List ℕ → A) → ((a : A) → from (numbers a) ≡ a) → NoneLeftOut numbers
+had-back from e a b h = sym (e a) ∙ ap from h ∙ e b

@@ -4,10 +4,11 @@ use mathlib.Core.Path.{_≡_, refl, sym, ap, _∙_}
 use mathlib.Core.List.{List}
 use mathlib.Core.Bool.{Bool, true, false, true≢false}
 use lib.ListN.{length, take}
-use lib.Seq.{take-append-seam}
+use lib.Seq.{take-append-seam, take-at}
 use borrow.Author.Tests.{lt-ltb, le-ltb}
 use Rattle.octets.specs.Pick.{pick}
 use Rattle.octets.specs.Parts.{written}
+use Rattle.octets.proofs.Choices.{passed, not-picked}
 use Rattle.answer.specs.Refusals.{outputShort, fieldRange}
 use Rattle.answer.proofs.Told.{same-fields, same-refusal, accept-or-refuse, refuse-or-accept}
 use Rattle.answer.specs.Writer.{told, writing, left, Wrote, Gives, RefusalsTellNothing}
@@ -54,3 +55,13 @@ gives wrong octets out r out′ right room w =
       answers = ap (λ (q : Written × List ℕ). q .0) same;
       leaves = ap (λ (q : Written × List ℕ). take (length octets) (q .1)) same ∙ take-append-seam octets _;
     }
+
+-- a writer that answered a length found nothing wrong and left the octets
+pub wrote-right : {wrong : Bool} {octets out out′ : List ℕ} {n : ℕ} → Wrote wrong octets out (Length n) out′
+    → (wrong ≡ false) × (take n out′ ≡ octets)
+unfolding writing left
+wrote-right {wrong} {octets} {out} {out′} {n} w =
+    let a = not-picked wrong _ _ _ (sym (w .answers)) refuse-or-accept in
+    let b = not-picked _ _ _ _ (a .1) refuse-or-accept in
+    let e : out′ ≡ written octets out = w .leaves ∙ sym (passed wrong out _ _ (a .0) (passed _ out _ _ (b .0) refl)) in
+    (a .0, ap (take n) e ∙ take-at octets _ n (same-fields (b .1)))

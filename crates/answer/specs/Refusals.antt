@@ -1,7 +1,7 @@
 -- Document 01, 'Numbers given when something is turned away', in its order; of document 02, 120 to 123 in the place of 12, and the others behind.
 use Prim.Native.Nat.{ℕ}
 
--- Under 501 octets or under 16 lengths lent.
+-- Under 501 octets, or under 16 lengths or 16 first arrival numbers lent.
 abbrev pub room : ℕ
 room = 1
 

@@ -34,3 +34,7 @@ allZero (n ∷ ns) = eqb n 0 && allZero ns
 
 abbrev pub TellsNothing : {A R : Type 0} → (R → Told A) → (A → List ℕ) → Type 0
 TellsNothing {A} {R} told numbers = (r : R) → told r .accepted ≡ false → allZero (numbers (told r .fields)) ≡ true
+
+-- No two values have the same numbers: so no field is left out of them.
+abbrev pub NoneLeftOut : {A : Type 0} → (A → List ℕ) → Type 0
+NoneLeftOut {A} numbers = (a b : A) → numbers a ≡ numbers b → a ≡ b

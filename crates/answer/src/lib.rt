@@ -2,7 +2,7 @@
 ghost use mathlib.Core.Path.{_≡_};
 ghost use Rattle.answer.specs.Told.{plain};
 
-// Under 501 octets or under 16 lengths lent.
+// Under 501 octets, or under 16 lengths or 16 first arrival numbers lent.
 pub const ROOM: u16 = 1;
 // Opening, or reading a single frame outside a session, with t above 8.
 pub const TIME_LENGTH: u16 = 2;

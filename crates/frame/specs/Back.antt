@@ -1,4 +1,5 @@
--- Demand 2 for frames: reader and writer undo one another, for every t from 0 to 8.
+-- Demand 2 for frames: reader and writer undo one another, for every t from 0 to 8. (Over the calls, by their generated contracts:
+-- proofs/Calls.)
 use Prim.Native.Nat.{ℕ, _+_, _≤_, _<_}
 use mathlib.Core.Path.{_≡_}
 use mathlib.Core.List.{List}
@@ -7,15 +8,12 @@ use mathlib.Core.Logic.{_⊎_}
 use lib.ListN.{length}
 use Rattle.octets.specs.Numbers.{at}
 use Rattle.answer.specs.Told.{accept}
-use Rattle.answer.specs.Back.{Format, CallsReadBack, CallsWriteBack}
 use Rattle.frame.specs.Limits.{leastLength, greatestLength, longestTime, longestData, noneStarts, rawData}
 use Rattle.frame.specs.Address.{unfit, addressWrong, addressOctets}
-use Rattle.frame.specs.Frame.{told, readFrame, dataOf, timeOf}
+use Rattle.frame.specs.Frame.{readFrame, dataOf, timeOf}
 use Rattle.frame.specs.Write.{fieldsWrong, frameOctets}
 use Rattle.frame.specs.declared.Address.{Address}
 use Rattle.frame.specs.declared.Frame.{Frame}
-use Rattle.frame.specs.declared.FrameRead.{FrameRead}
-use Rattle.frame.specs.declared.FrameRead.the-variants as read
 
 -- What was written is accepted and reads back to the same fields, data and time. (Fields that aren't wrong have t from 0 to 8.)
 pub record ReadBack (f : Frame) (t : ℕ) (d m : List ℕ) : Type 0 where
@@ -33,21 +31,6 @@ pub record WrittenBack (f : Frame) (t : ℕ) (s : List ℕ) : Type 0 where
 
 abbrev pub WritesBack : Type 0
 WritesBack = (t : ℕ) (s : List ℕ) (f : Frame) → ((i : ℕ) → at s i < 256) → readFrame t s ≡ accept f → WrittenBack f t s
-
--- The same over the calls `write`, `read`, `data` and `time`: beside a frame's fields stand its data and its time.
-abbrev pub format : ℕ → Format Frame (List ℕ × List ℕ) FrameRead
-format t =
-    record {
-      wrong = λ f b. fieldsWrong f t (length (b .0)) (length (b .1));
-      octets = λ f b. frameOctets f t (b .0) (b .1);
-      reading = readFrame t;
-      told = told;
-      accepting = read.Frame;
-      beside = λ f s. (dataOf f s, timeOf f t s);
-    }
-
-abbrev pub CallsBack : Type 0
-CallsBack = (t : ℕ) → CallsReadBack (format t) × CallsWriteBack (format t)
 
 -- Seven octets are what the writer gives for some address that is fit.
 pub record WrittenFor (s : List ℕ) (last : ℕ) : Type 0 where

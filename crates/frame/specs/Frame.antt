@@ -7,7 +7,7 @@ use lib.Dec.{ltb, eqb}
 use Rattle.octets.specs.Numbers.{at}
 use Rattle.octets.specs.Parts.{part}
 use Rattle.octets.specs.Pick.{pick}
-use Rattle.answer.specs.Told.{Told, accept, refuse, refuseAt, TellsNothing}
+use Rattle.answer.specs.Told.{Told, accept, refuse, refuseAt, TellsNothing, NoneLeftOut}
 use Rattle.answer.specs.Refusals as no
 use Rattle.bits.specs.Rows.{ones}
 use Rattle.bits.specs.Rows.Order.{lowFirst}
@@ -51,7 +51,7 @@ told (read.Frame f) = accept f
 told (read.Refused r) = refuseAt noFrame (r .number) (r .octet)
 
 abbrev pub RefusalsTellNothing : Type 0
-RefusalsTellNothing = TellsNothing told frameNumbers
+RefusalsTellNothing = NoneLeftOut frameNumbers × TellsNothing told frameNumbers
 
 -- ---- the refusals' lines
 

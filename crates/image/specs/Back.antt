@@ -1,19 +1,20 @@
--- Demand 2 for image lines: a line that the report's writer gave is placed, and what was placed is what the writer gives.
+-- Demand 2 for image lines: a line that the report's writer gave is placed, and what was placed is what the writer gives. (With the
+-- generated contracts: proofs/Calls.)
 use Prim.Native.Nat.{ℕ, _≤_, _<_}
 use mathlib.Core.Path.{_≡_}
 use mathlib.Core.Bool.{false}
 use mathlib.Core.List.{List, [], _∷_}
 use lib.ListN.{length, take}
 use Rattle.octets.specs.Numbers.{at}
-use Rattle.octets.specs.Parts.{written}
-use Rattle.answer.specs.Told.{accept}
+use Rattle.answer.specs.Back.{Format}
+use Rattle.answer.specs.Writer.{Gave}
 use Rattle.answer.specs.declared.Written.{Written}
 use Rattle.answer.specs.declared.Written.the-variants.{Length}
 use Rattle.packet.specs.declared.Packet.{Packet}
-use Rattle.report.specs.Report.{readReport, pixelsOf}
-use Rattle.report.specs.Write.{reportWrong, reportOctets, WroteReport}
+use Rattle.report.specs.Write.{reportWrong, reportOctets}
 use Rattle.report.specs.declared.Line.{Line as ReportLine}
 use Rattle.report.specs.declared.Report.{Report}
+use Rattle.report.specs.declared.ReportRead.{ReportRead}
 use Rattle.report.specs.declared.Content.the-variants as content
 use Rattle.image.specs.Line.{Image, Room, lineOf, heldOtherwise, placed}
 use Rattle.image.specs.Placing.{Places}
@@ -41,32 +42,35 @@ PlacesOctets =
     → Places (reportOctets (lineReport p l) (pixels ∷ [])) arrival (l .image) before answer after
     → PlacedAs before (l .line) pixels arrival answer after
 
--- Over the calls: what `Line::write` wrote, given to `place`.
-abbrev pub PlacesWritten : Type 0
-PlacesWritten =
-    (p : Packet) (l : ReportLine) (pixels out out′ : List ℕ) (n arrival : ℕ) (before : Image) (answer : Placed) (after : Image)
-    → WroteReport p (content.Line l) (pixels ∷ []) out (Length n) out′ → Ready before arrival
-    → heldOtherwise before (l .line) pixels ≡ false → Places (take n out′) arrival (l .image) before answer after
-    → PlacedAs before (l .line) pixels arrival answer after
+-- Over calls: f has those of the reports, by their generated contracts, and PlacesBy those of `place`.
+module _ (f : Format Report (List (List ℕ)) ReportRead) (PlacesBy : List ℕ → ℕ → ℕ → Image → Placed → Image → Type 0) where
+  -- What a call of `Line::write` wrote, given to `place`.
+  abbrev pub PlacesWritten : Type 0
+  PlacesWritten =
+      (p : Packet) (l : ReportLine) (pixels out : List ℕ) (n : ℕ) (out′ : List ℕ) (arrival : ℕ) (before : Image) (answer : Placed)
+      (after : Image) → f .Writes (lineReport p l) (pixels ∷ []) out (Length n) out′ → Ready before arrival
+      → heldOtherwise before (l .line) pixels ≡ false → PlacesBy (take n out′) arrival (l .image) before answer after
+      → PlacedAs before (l .line) pixels arrival answer after
 
--- The writer's call of this line gives the packet, if there is room for it.
-abbrev pub Gives : Packet → ReportLine → List ℕ → Type 0
-Gives p l packet =
-    (out : List ℕ) (r : Written) (out′ : List ℕ) → length packet ≤ length out
-    → WroteReport p (content.Line l) (pixelsOf packet ∷ []) out r out′ → (r ≡ Length (length packet)) × (out′ ≡ written packet out)
+  -- The call of the reader on this packet gave q, the fields of line n of the wanted image. With the pixels that `Line::pixels` finds,
+  -- nothing but this line is placed, and the writer's call gives the packet.
+  pub record LineOf (packet : List ℕ) (arrival wanted n : ℕ) (before after : Image) (q : ReportRead) : Type 0 where
+    pub packetFields : Packet
+    pub lineFields : ReportLine
+    pub read : q ≡ f .accepting (lineReport packetFields lineFields)
+    pub line : lineFields .line ≡ n
+    pub image : lineFields .image ≡ wanted
+    pub leaves :
+        (pixels : List ℕ) → f .Finds (lineReport packetFields lineFields) packet (pixels ∷ [])
+        → after ≡ placed before (lineOf n pixels arrival)
+    pub gives :
+        (pixels : List ℕ) → f .Finds (lineReport packetFields lineFields) packet (pixels ∷ [])
+        → (out : List ℕ) (r : Written) (out′ : List ℕ) → length packet ≤ length out
+        → f .Writes (lineReport packetFields lineFields) (pixels ∷ []) out r out′ → Gave packet r out′
 
--- A packet that is line n of an image: the fields that the reader gives, for which the writer gives the packet.
-pub record LineOf (packet : List ℕ) (wanted n : ℕ) : Type 0 where
-  pub packetFields : Packet
-  pub lineFields : ReportLine
-  pub read : readReport packet ≡ accept (lineReport packetFields lineFields)
-  pub line : lineFields .line ≡ n
-  pub image : lineFields .image ≡ wanted
-  pub gives : Gives packetFields lineFields packet
-
--- What `place` placed is such a packet, and nothing but its line is placed.
-abbrev pub WritesPlaced : Type 0
-WritesPlaced =
-    (packet : List ℕ) (arrival wanted n : ℕ) (before after : Image) → ((i : ℕ) → at packet i < 256)
-    → Places packet arrival wanted before (answers.Line n) after
-    → LineOf packet wanted n × (after ≡ placed before (lineOf n (pixelsOf packet) arrival))
+  -- What a call of `place` placed is such a packet.
+  abbrev pub WritesPlaced : Type 0
+  WritesPlaced =
+      (packet : List ℕ) (arrival wanted n : ℕ) (before after : Image) (q : ReportRead) → ((i : ℕ) → at packet i < 256)
+      → PlacesBy packet arrival wanted before (answers.Line n) after → f .Reads packet q
+      → LineOf packet arrival wanted n before after q

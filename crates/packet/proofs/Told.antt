@@ -3,13 +3,14 @@ use Prim.Native.Nat.{ℕ}
 use mathlib.Core.Path.{_≡_, refl, ap}
 use mathlib.Core.List.{List}
 use mathlib.Core.Bool.{Bool, true, false, true≢false, false≢true}
+use Rattle.octets.specs.Numbers.{at}
 use Rattle.octets.specs.Pick.{pick}
-use Rattle.answer.specs.Told.{accept, refuse}
-use Rattle.answer.proofs.Told.{same-fields, same-refusal, accept-or-refuse, refuse-or-accept}
+use Rattle.answer.specs.Told.{accept, refuse, TellsNothing, NoneLeftOut}
+use Rattle.answer.proofs.Told.{same-fields, same-refusal, accept-or-refuse, refuse-or-accept, had-back}
 use Rattle.bits.specs.Rows.{zeros}
 use Rattle.bits.specs.Rows.Order.{highFirst}
 use Rattle.crc.specs.Check.{checkWrong}
-use Rattle.packet.specs.Packet.{lengthWrong, bitsWrong, fieldsOf, noPacket, told, RefusalsTellNothing, readPacket}
+use Rattle.packet.specs.Packet.{lengthWrong, bitsWrong, fieldsOf, noPacket, packetNumbers, told, RefusalsTellNothing, readPacket}
 use Rattle.packet.specs.declared.Packet.{Packet}
 use Rattle.packet.specs.declared.PacketRead.{PacketRead}
 use Rattle.packet.specs.declared.PacketRead.the-variants as read
@@ -20,9 +21,19 @@ told-apart (read.Refused n) (read.Refused m) h = ap read.Refused (same-refusal h
 told-apart (read.Packet p) (read.Refused m) h = accept-or-refuse h
 told-apart (read.Refused n) (read.Packet q) h = refuse-or-accept h
 
+-- a packet can be had back from its numbers
+pub none-left-out : NoneLeftOut packetNumbers
+none-left-out =
+    had-back {numbers = packetNumbers}
+    (λ l. record { apid = at l 0; sequence = record { 0 = at l 1 }; service = at l 2; subtype = at l 3; time = at l 4; length = at l 5 })
+    (λ p. refl)
+
+tell-nothing : TellsNothing told packetNumbers
+tell-nothing (read.Packet p) h = absurd (true≢false h)
+tell-nothing (read.Refused n) h = refl
+
 pub refusals-tell-nothing : RefusalsTellNothing
-refusals-tell-nothing (read.Packet p) h = absurd (true≢false h)
-refusals-tell-nothing (read.Refused n) h = refl
+refusals-tell-nothing = (none-left-out, tell-nothing)
 
 -- an answer that accepts tells no refusal
 whole : (a b c : Bool) (l m n : ℕ) (p : Packet)

@@ -1,4 +1,4 @@
--- Demand 2 for the packet: its reader and its writer undo one another.
+-- Demand 2 for the packet: its reader and its writer undo one another. (Over the calls, by their generated contracts: proofs/Calls.)
 use Prim.Native.Nat.{ℕ, _<_}
 use mathlib.Core.Path.{_≡_}
 use mathlib.Core.List.{List}
@@ -6,12 +6,9 @@ use mathlib.Core.Bool.{false}
 use lib.ListN.{length}
 use Rattle.octets.specs.Numbers.{at}
 use Rattle.answer.specs.Told.{accept}
-use Rattle.answer.specs.Back.{Format, CallsReadBack, CallsWriteBack}
-use Rattle.packet.specs.Packet.{told, readPacket, sourceOf}
+use Rattle.packet.specs.Packet.{readPacket, sourceOf}
 use Rattle.packet.specs.Write.{fieldsWrong, packetOctets}
 use Rattle.packet.specs.declared.Packet.{Packet}
-use Rattle.packet.specs.declared.PacketRead.{PacketRead}
-use Rattle.packet.specs.declared.PacketRead.the-variants as read
 
 -- What was written is accepted and reads back to the same fields and source data.
 pub record ReadBack (p : Packet) (d : List ℕ) : Type 0 where
@@ -28,18 +25,3 @@ pub record WrittenBack (p : Packet) (s : List ℕ) : Type 0 where
 
 abbrev pub WritesBack : Type 0
 WritesBack = (s : List ℕ) (p : Packet) → ((i : ℕ) → at s i < 256) → readPacket s ≡ accept p → WrittenBack p s
-
--- The same over the calls `write`, `read` and `source`: beside a packet's fields stands its source data.
-abbrev pub format : Format Packet (List ℕ) PacketRead
-format =
-    record {
-      wrong = λ p d. fieldsWrong p (length d);
-      octets = packetOctets;
-      reading = readPacket;
-      told = told;
-      accepting = read.Packet;
-      beside = sourceOf;
-    }
-
-abbrev pub CallsBack : Type 0
-CallsBack = CallsReadBack format × CallsWriteBack format

@@ -7,7 +7,7 @@ use lib.Dec.{ltb, eqb}
 use Rattle.octets.specs.Numbers.{at, word, five}
 use Rattle.octets.specs.Parts.{part}
 use Rattle.octets.specs.Pick.{pick}
-use Rattle.answer.specs.Told.{Told, accept, refuse, TellsNothing}
+use Rattle.answer.specs.Told.{Told, accept, refuse, TellsNothing, NoneLeftOut}
 use Rattle.answer.specs.Refusals as refusal
 use Rattle.bits.specs.Rows.{zeros}
 use Rattle.bits.specs.Rows.Order.{highFirst}
@@ -51,7 +51,7 @@ told (read.Packet p) = accept p
 told (read.Refused n) = refuse noPacket n
 
 abbrev pub RefusalsTellNothing : Type 0
-RefusalsTellNothing = TellsNothing told packetNumbers
+RefusalsTellNothing = NoneLeftOut packetNumbers × TellsNothing told packetNumbers
 
 -- 20, 21 (the last two octets aren't the check of those before), 22 in this order, else the fields.
 unfoldable pub readPacket : List ℕ → Told Packet

@@ -6,7 +6,7 @@ use lib.Dec.{ltb}
 use Rattle.octets.specs.Numbers.{at, word, four}
 use Rattle.octets.specs.Parts.{part}
 use Rattle.octets.specs.Pick.{pick}
-use Rattle.answer.specs.Told.{Told, accept, refuse, TellsNothing}
+use Rattle.answer.specs.Told.{Told, accept, refuse, TellsNothing, NoneLeftOut}
 use Rattle.answer.specs.Refusals as refusal
 use Rattle.packet.specs.Packet.{noPacket, packetNumbers, readPacket}
 use Rattle.packet.specs.declared.Packet.{Packet}
@@ -70,13 +70,13 @@ contentOf p s =
 abbrev pub noReport : Report
 noReport = record { packet = noPacket; content = content.Success (record { id = 0; control = 0 }) }
 
--- The numbers of a report's fields: in a refusal's answer each is 0.
+-- The numbers of a report's fields, before them which of the five it is, 0 to 4: in a refusal's answer each is 0.
 abbrev pub contentNumbers : Content → List ℕ
-contentNumbers (content.Success c) = c .id ∷ c .control ∷ []
-contentNumbers (content.Failure c) = c .id ∷ c .control ∷ c .code ∷ []
-contentNumbers (content.Housekeeping c) = c .sid ∷ c .length ∷ []
-contentNumbers (content.Available c) = c .image ∷ c .ticks ∷ []
-contentNumbers (content.Line c) = c .image ∷ c .line ∷ []
+contentNumbers (content.Success c) = 0 ∷ c .id ∷ c .control ∷ []
+contentNumbers (content.Failure c) = 1 ∷ c .id ∷ c .control ∷ c .code ∷ []
+contentNumbers (content.Housekeeping c) = 2 ∷ c .sid ∷ c .length ∷ []
+contentNumbers (content.Available c) = 3 ∷ c .image ∷ c .ticks ∷ []
+contentNumbers (content.Line c) = 4 ∷ c .image ∷ c .line ∷ []
 
 abbrev pub reportNumbers : Report → List ℕ
 reportNumbers r = packetNumbers (r .packet) ++ contentNumbers (r .content)
@@ -87,7 +87,7 @@ told (read.Report r) = accept r
 told (read.Refused n) = refuse noReport n
 
 abbrev pub RefusalsTellNothing : Type 0
-RefusalsTellNothing = TellsNothing told reportNumbers
+RefusalsTellNothing = NoneLeftOut reportNumbers × TellsNothing told reportNumbers
 
 -- Refusal 31: shorter than the pair's least length or longer than its greatest.
 abbrev pub lengthWrong : Packet → Pair → Bool
