@@ -1,4 +1,4 @@
--- That each kind of damage is as wide as it is said to be: all that the words of M-109 cover is covered, and a packet is damaged in each way.
+-- That each kind of damage is as wide as it is said to be: what the words of M-109 cover is covered, and a packet is damaged in each way.
 use Prim.Native.Nat.{ℕ, _+_, _<_}
 use mathlib.Core.Path.{_≡_}
 use mathlib.Core.Bool.{Bool, true, false}
@@ -37,10 +37,14 @@ threeFarApart = 0x88 ∷ 0x05 ∷ 0xc0 ∷ 0x09 ∷ 0x00 ∷ 0x09 ∷ 0x10 ∷ 0
 abbrev pub sixteenNeighbours : List ℕ
 sixteenNeighbours = 0x08 ∷ 0x0a ∷ 0x3f ∷ 0xf9 ∷ 0x00 ∷ 0x09 ∷ 0x10 ∷ 0x01 ∷ 0x01 ∷ 0x00 ∷ 0x00 ∷ 0x00 ∷ 0x01 ∷ 0x80 ∷ 0xaf ∷ 0xf9 ∷ []
 
+-- An answer is refusal 21.
+abbrev pub Tells21 : PacketRead → Type 0
+Tells21 answer = (told answer .accepted ≡ false) × (told answer .refusal ≡ refusal.packetCheck)
+
 -- What the packet became is damage, and whatever the reader answers of it is refusal 21.
 pub record Refused21 (became : List ℕ) : Type 0 where
   pub damaged : Damaged highFirst packet became
-  pub refused : (answer : PacketRead) → PacketReads became answer → (told answer .accepted ≡ false) × (told answer .refusal ≡ refusal.packetCheck)
+  pub refused : (answer : PacketRead) → PacketReads became answer → Tells21 answer
 
 pub record WidestRefused : Type 0 where
   pub two : Refused21 twoFarApart

@@ -28,12 +28,15 @@ module _ (apid count : ℕ) (list : List ℕ) where
       picks Went (ltb (length list) 2048) _ _ (λ t h. absurd (true≢false (sym h)))
       (λ l. picks Went (ltb 2047 apid || ltb 16383 count) _ _ (λ t h. absurd (true≢false (sym h)))
       (λ r. picks Went (ltb 16384 (at list apid)) _ _ (λ t h. absurd (true≢false (sym h)))
-      (λ q h. (record {
-        long = ltb-false _ _ l;
-        apids = ltb-false _ _ (or-left (ltb 2047 apid) (ltb 16383 count) r);
-        counts = ltb-false _ _ (or-right (ltb 2047 apid) (ltb 16383 count) r);
-        entry = ltb-false _ _ q;
-      }, refl))))
+      (λ q h. (
+        record {
+          long = ltb-false _ _ l;
+          apids = ltb-false _ _ (or-left (ltb 2047 apid) (ltb 16383 count) r);
+          counts = ltb-false _ _ (or-right (ltb 2047 apid) (ltb 16383 count) r);
+          entry = ltb-false _ _ q;
+        },
+        refl,
+      ))))
 
 module _ (apid first second : ℕ) (before : List ℕ) (p : Passed apid first before) (low : second ≤ 16383) where
   abbrev left : List ℕ
