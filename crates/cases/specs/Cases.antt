@@ -4,6 +4,7 @@ use mathlib.Core.Path.{_≡_}
 use mathlib.Core.Bool.{Bool, true, false}
 use mathlib.Core.Option.{some}
 use mathlib.Core.List.{List, [], _∷_, _++_, map}
+use lib.ListN.{replicate}
 use Rattle.octets.specs.Numbers.{at}
 use Rattle.answer.specs.Told.{Told, accept}
 use Rattle.crc.specs.Check.{packetCheck}
@@ -14,7 +15,7 @@ use Rattle.frame.specs.Address.{addressOctets}
 use Rattle.frame.specs.Frame.{statusWrong}
 use Rattle.frame.specs.declared.Address.{Address}
 use Rattle.packet.specs.Packet.{fieldsOf}
-use Rattle.sequence.specs.Sequence.{Between, missing, since}
+use Rattle.sequence.specs.Sequence.{entries, Between, missing, outcome}
 use Rattle.image.specs.Line.{start}
 
 -- Numbers, a loss, what an answer tells, or whether something is wrong.
@@ -48,6 +49,10 @@ abbrev pub upToTime : List ℕ
 upToTime =
     0x08 ∷ 0x05 ∷ 0xc0 ∷ 0x09 ∷ 0x00 ∷ 0x09 ∷ 0x10 ∷ 0x01 ∷ 0x01 ∷ 0x00 ∷ 0x00 ∷ 0x00 ∷ 0x01 ∷ 0x80 ∷ []
 
+-- What the second of two calls for APID 5 tells, the first made on a list without any count.
+abbrev pub afterFirst : ℕ → ℕ → Told Between
+afterFirst first second = outcome 5 second (outcome 5 first (replicate entries 0) .list) .answer
+
 abbrev pub table : List Row
 table =
     -- packet check over no octets, 0xFFFF
@@ -66,10 +71,10 @@ table =
     ∷ row (lost (lostSince (some 255) 0)) (lost (Known 0))
     -- 254 then 1, lost 2
     ∷ row (lost (lostSince (some 254) 1)) (lost (Known 2))
-    -- sequence 16,383 then 0, missing 0 (the entry is the last count + 1)
-    ∷ row (answer (since 16384 0)) (answer (accept (missing 0)))
+    -- sequence 16,383 then 0, missing 0
+    ∷ row (answer (afterFirst 16383 0)) (answer (accept (missing 0)))
     -- 5 then 9, missing 3
-    ∷ row (answer (since 6 9)) (answer (accept (missing 3)))
+    ∷ row (answer (afterFirst 5 9)) (answer (accept (missing 3)))
     -- time 00 00 00 01 80 is 384
     ∷ row (one (fieldsOf upToTime .time)) (one 384)
     -- line 119 starts at 22,372

@@ -3,3 +3,4 @@ pub mod Register
 pub mod Shows
 pub mod Unseen
 pub mod Worth
+pub mod Widest

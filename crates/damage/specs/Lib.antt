@@ -1,3 +1,4 @@
 pub mod Damage
 pub mod Worth
 pub mod Unseen
+pub mod Widest

@@ -1,5 +1,5 @@
 -- Decimal text that is read: no leading zero, and no number above the largest.
-use Prim.Native.Nat.{ℕ, zero, suc, _+_, _≤_}
+use Prim.Native.Nat.{ℕ, zero, suc, _+_, _-_, _^_, _≤_}
 use mathlib.Core.Path.{_≡_}
 use mathlib.Core.Bool.{Bool, true, false, not, _||_}
 use mathlib.Core.List.{List, [], _∷_, _++_}
@@ -64,22 +64,26 @@ numbersWrong zero after [] = false
 numbersWrong zero after (c ∷ text) = true
 numbersWrong (suc n) after text = numberWrong after text || numbersWrong n after (behind text)
 
+-- A number of 32 bits: any that a call can be given, whatever the largest is that is read.
+abbrev pub Of32Bits : ℕ → Type 0
+Of32Bits n = n ≤ 2 ^ 32 - 1
+
 -- A number that was written reads back, whatever stands before and behind it.
 abbrev pub ReadsBack : Type 0
 ReadsBack =
-    (before text : List ℕ) (n after : ℕ) → n ≤ largest → noDigit after ≡ true
+    (before text : List ℕ) (n after : ℕ) → Of32Bits n → noDigit after ≡ true
     → readAt (before ++ (decimal n ++ (after ∷ text))) (length before) after ≡ Read n (length before + length (decimal n) + 1)
 
 -- What is read as a number is what is written for it.
 abbrev pub WritesBack : Type 0
 WritesBack =
     (text : List ℕ) (at after n next : ℕ) → readAt text at after ≡ Read n next
-    → (n ≤ largest) × (drop at text ≡ decimal n ++ (after ∷ drop next text))
+    → Of32Bits n × (drop at text ≡ decimal n ++ (after ∷ drop next text))
 
 -- The same of a whole text of numbers.
 abbrev pub NumbersReadBack : Type 0
 NumbersReadBack =
-    (numbers : List ℕ) (after : ℕ) → ((i : ℕ) → at numbers i ≤ largest) → noDigit after ≡ true
+    (numbers : List ℕ) (after : ℕ) → ((i : ℕ) → Of32Bits (at numbers i)) → noDigit after ≡ true
     → (numbersWrong (length numbers) after (each after numbers []) ≡ false) × (numbersOf (length numbers) (each after numbers []) ≡ numbers)
 
 abbrev pub NumbersWriteBack : Type 0

@@ -6,7 +6,7 @@ use mathlib.Core.List.{List}
 use lib.ListN.{length, take}
 use Rattle.octets.specs.Numbers.{at}
 use Rattle.octets.specs.Parts.{written}
-use Rattle.decimal.specs.Read.{largest}
+use Rattle.decimal.specs.Read.{Of32Bits}
 use Rattle.image.specs.Line.{Image, imageOf}
 use Rattle.greymap.specs.Picture.{numbersOf, shown, greymapOctets, greymapOf, short}
 use Rattle.greymap.specs.Writing.{Outputs, lengths, Writes}
@@ -24,7 +24,8 @@ GreymapLength = (image : Image) → short image ≡ false → length (greymapOf 
 -- What a call of `write` gave for an image, every call of `read` with room gives back: the pixels, those of a line numbered 0 as 0, and the numbers.
 abbrev pub CallsReadBack : Type 0
 CallsReadBack =
-    (image : Image) (out : Outputs) (l : Lengths) (out′ : Outputs) → ((i : ℕ) → at (image .lines) i ≤ largest) → Writes image out (written.Lengths l) out′
+    (image : Image) (out : Outputs) (l : Lengths) (out′ : Outputs) → ((i : ℕ) → Of32Bits (at (image .lines) i))
+    → Writes image out (written.Lengths l) out′
     → (before : Image) (answer : PictureRead) (after : Image) → short before ≡ false
     → Reads (take (l .grey) (out′ .grey)) (take (l .text) (out′ .text)) before answer after
     → (answer ≡ read.Read) × (after ≡ imageOf (written (shown image) (before .pixels)) (written (numbersOf (image .lines)) (before .lines)))

@@ -35,10 +35,12 @@ pub fn receiver(kind: &[u8], word: &[u8]) -> Receiver
     ensures { λ r. ⌜ r ≡ receiverOf (now (kind .entry)) (now (word .entry)) ⌝ }
 {
     if octets::same(kind, b"--kiss") {
-        return Receiver::kiss(time(word));
+        let begun = Receiver::kiss(time(word));
+        return begun.receiver;
     }
     if octets::same(kind, b"--bits") {
-        return Receiver::bits(time(word));
+        let begun = Receiver::bits(time(word));
+        return begun.receiver;
     }
     Receiver::recording()
 }

@@ -26,7 +26,9 @@ fn listed(name: &[u8]) {
 fn kiss(name: &[u8], t: u8) {
     let file = opened(name);
     if 0 <= file {
-        lister::run_stream(b"listings", file, Receiver::kiss(t));
+        let begun = Receiver::kiss(t);
+        let receiver = begun.receiver;
+        lister::run_stream(b"listings", file, receiver);
         libc::close(file);
     }
 }
@@ -35,7 +37,9 @@ fn kiss(name: &[u8], t: u8) {
 fn bits(name: &[u8], t: u8) {
     let file = opened(name);
     if 0 <= file {
-        lister::run_stream(b"listings", file, Receiver::bits(t));
+        let begun = Receiver::bits(t);
+        let receiver = begun.receiver;
+        lister::run_stream(b"listings", file, receiver);
         libc::close(file);
     }
 }

@@ -1,3 +1,4 @@
+pub mod Beginning
 pub mod Enough
 pub mod Events
 pub mod Receiving

@@ -17,6 +17,7 @@ use Rattle.receiver.specs.declared.Receiver.{Receiver}
 use Rattle.receiver.specs.declared.Received.{Received}
 use Rattle.receiver.specs.declared.Event.{Event}
 use Rattle.receiver.specs.declared.Event.the-variants as event
+use Rattle.receiver.proofs.Beginning.{one-begun}
 use Rattle.receiver.proofs.Receiver.recording.Kinds as krecording
 use Rattle.receiver.proofs.Receiver.recording.Reads as rrecording
 use Rattle.receiver.proofs.Receiver.kiss.Kinds as kkiss
@@ -30,10 +31,10 @@ pub recording-fixed : Fixes krecording.ps krecording.r rrecording.Post (λ κs x
 recording-fixed = fixed krecording.ps krecording.r rrecording.Post _ _ (λ κs a x s p. p)
 
 pub kiss-fixed : Fixes kkiss.ps kkiss.r rkiss.Post (λ κs x s. x)
-kiss-fixed = fixed kkiss.ps kkiss.r rkiss.Post _ _ (λ κs a x s p. p)
+kiss-fixed κs a x y s t p q = one-begun p q
 
 pub bits-fixed : Fixes kbits.ps kbits.r rbits.Post (λ κs x s. x)
-bits-fixed = fixed kbits.ps kbits.r rbits.Post _ _ (λ κs a x s p. p)
+bits-fixed κs a x y s t p q = one-begun p q
 
 -- the answer that tells so, and the event
 answerOf : Told Accepted → StepAnswer

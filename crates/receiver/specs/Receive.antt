@@ -1,9 +1,10 @@
 -- What a receiver makes of the octets at hand.
-use Prim.Native.Nat.{ℕ, _-_}
+use Prim.Native.Nat.{ℕ, _-_, _≤_, _<_}
 use mathlib.Core.Path.{_≡_}
 use mathlib.Core.List.{List, []}
 use lib.ListN.{take, drop}
-use Rattle.answer.specs.Told.{Told}
+use Rattle.answer.specs.Told.{Told, accept, refuse}
+use Rattle.answer.specs.Refusals.{timeLength}
 use Rattle.stretch.specs.Stretch.{Stretch, found, unread}
 use Rattle.source.specs.Scan.{scanned, keptBy}
 use Rattle.source.specs.Scan.{fresh as freshSource}
@@ -12,12 +13,14 @@ use Rattle.source.specs.declared.Taken.{Taken}
 use Rattle.source.specs.declared.Taken.the-variants as taken
 use Rattle.rules.specs.Channel.{Handed}
 use Rattle.session.specs.Open.{opening}
+use Rattle.session.specs.Open.{told as toldOpening}
 use Rattle.session.specs.Lent.{Lent, laid}
 use Rattle.session.specs.Step.{Outcome, told}
 use Rattle.session.specs.Statements.{offered}
 use Rattle.session.specs.declared.Session.{Session}
 use Rattle.session.specs.declared.Accepted.{Accepted}
 use Rattle.receiver.specs.declared.Receiver.{Receiver}
+use Rattle.receiver.specs.declared.Begun.{Begun}
 use Rattle.receiver.specs.declared.Received.{Received}
 use Rattle.receiver.specs.declared.Event.{Event}
 use Rattle.receiver.specs.declared.Event.the-variants as event
@@ -70,6 +73,17 @@ freshStream s t = record { source = s; session = opening t 0 .session }
 -- A receiver of a recording of which nothing is read yet; before t is told no frame is found.
 abbrev pub fresh : Receiver
 fresh = freshStream freshSource 0
+
+-- The contract of `kiss` and of `bits`: the receiver, and what opening its session answers.
+pub record Begins (s : Source) (t : ℕ) (r : Begun) : Type 0 where
+  pub receiver : r .receiver ≡ freshStream s t
+  pub answers : toldOpening (r .answer) ≡ opening t 0 .answer
+
+-- t above 8 is told as refusal 2, and no other t is refused.
+abbrev pub TimeRefused : Type 0
+TimeRefused =
+    (s : Source) (t : ℕ) (r : Begun) → Begins s t r
+    → (8 < t → toldOpening (r .answer) ≡ refuse tt timeLength) × (t ≤ 8 → toldOpening (r .answer) ≡ accept tt)
 
 -- What comes of a call: the next receiver, how many octets are used, what is told, the octets kept and the packets handed out.
 pub record Receipt : Type 0 where

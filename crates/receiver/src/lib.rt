@@ -1,8 +1,9 @@
 // Receives frames: what a source tells opens a session or is offered to it, one section of the octets at hand a call.
 ghost use Rattle.session.specs.Lent.{lent};
 ghost use Rattle.source.specs.Scan.{freshKiss, freshBits};
-ghost use Rattle.receiver.specs.Receive.{fresh, freshStream, Receives};
+ghost use Rattle.receiver.specs.Receive.{fresh, Begins, Receives};
 ghost use mathlib.Core.Path.{_≡_};
+use session::OpenAnswer;
 use session::Session;
 use session::StepAnswer;
 use source::Source;
@@ -13,6 +14,12 @@ use stretch::KEPT;
 pub struct Receiver {
     pub source: Source,
     pub session: Session,
+}
+
+// A receiver of a stream, beside what opening its session answered.
+pub struct Begun {
+    pub receiver: Receiver,
+    pub answer: OpenAnswer,
 }
 
 // What a call tells.
@@ -49,24 +56,30 @@ impl Receiver {
         Receiver { source, session }
     }
 
-    // A receiver of a KISS stream of which nothing is read yet, for frames with t octets of time.
-    pub fn kiss(t: u8) -> Receiver
-        ensures { λ r. ⌜ r ≡ freshStream freshKiss t ⌝ }
+    // A receiver of a KISS stream of which nothing is read yet, for frames with t octets of time. With t above 8 refusal 2, and one for
+    // t = 0.
+    pub fn kiss(t: u8) -> Begun
+        ensures { λ r. ⌜ Begins freshKiss t r ⌝ }
     {
-        let source = Source::kiss();
-        let opened = Session::open(t, 0);
-        let session = opened.session;
-        Receiver { source, session }
+        Receiver::begun(Source::kiss(), t)
     }
 
-    // A receiver of raw bits of which nothing is read yet, for frames with t octets of time.
-    pub fn bits(t: u8) -> Receiver
-        ensures { λ r. ⌜ r ≡ freshStream freshBits t ⌝ }
+    // A receiver of raw bits of which nothing is read yet, for frames with t octets of time. With t above 8 refusal 2, and one for t = 0.
+    pub fn bits(t: u8) -> Begun
+        ensures { λ r. ⌜ Begins freshBits t r ⌝ }
     {
-        let source = Source::bits();
+        Receiver::begun(Source::bits(), t)
+    }
+
+    // A receiver of what a source is to tell, with a session opened for t.
+    fn begun(source: Source, t: u8) -> Begun
+        ensures { λ r. ⌜ Begins source t r ⌝ }
+    {
         let opened = Session::open(t, 0);
         let session = opened.session;
-        Receiver { source, session }
+        let answer = opened.answer;
+        let receiver = Receiver { source, session };
+        Begun { receiver, answer }
     }
 
     // Goes on with the window's first section: the packets that a frame completes are handed out as `Session::step` does. A source

@@ -82,7 +82,7 @@ module _ (apid count : ℕ) (list : List ℕ) where
       go true c = rw (c, eq-eqb last 16383 (n (eqb-true count 0 c)))
       go false c = rw c
 
-  later : Passed apid count list → (last : ℕ) → at list apid ≡ last + 1
+  pub later : Passed apid count list → (last : ℕ) → at list apid ≡ last + 1
       → outcome apid count list .answer ≡ pick (restarts last count) (accept restart) (accept (missing (gap 16384 count last)))
   later w last e = accepts w ∙ ap (λ (n : ℕ). since n count) e ∙ since-later last
 
