@@ -25,7 +25,7 @@ use Rattle.script_recording.specs.Recording.{losing}
 use Rattle.script.specs.Turn.{
   lineFeed,
   lineOf,
-  Ends,
+  LineEnds,
   linkWord,
   place,
   Turned,
@@ -130,7 +130,7 @@ module _ (script : List ℕ) (whole : Run) (l : Lent) (p : Place) (n from : ℕ)
       go zero = refl
       go (suc k) = sym (picked _ _ _ (le-leb _ _ h))
 
-  module _ (h : from < length script) (end : ℕ) (e : Ends script from end) (p′ : Place) (l′ : Lent) (t : turned p′ l′ ≡ turning p script from end l)
+  module _ (h : from < length script) (end : ℕ) (e : LineEnds script from end) (p′ : Place) (l′ : Lent) (t : turned p′ l′ ≡ turning p script from end l)
       (m : ℕ) (pm : m ≡ (n + 1) % 2 ^ 64) where
     abbrev onward : ℕ → ℕ → Turned → ℕ → Run
     onward k x y z = pick (isFault (y .place .fault)) (run (y .place) z (y .lent)) (running k (y .place) script (x + 1) z (y .lent))

@@ -27,7 +27,7 @@ lineOf [] = []
 lineOf (x ∷ s) = pick (eqb x lineFeed) [] (x ∷ lineOf s)
 
 -- Where the line ends that stands at an index of a script: within it, and so no index is too large to be counted.
-pub record Ends (s : List ℕ) (at r : ℕ) : Type 0 where
+pub record LineEnds (s : List ℕ) (at r : ℕ) : Type 0 where
   pub is : r ≡ at + length (lineOf (drop at s))
   pub behind : at ≤ r
   pub inside : r ≤ length s

@@ -2,13 +2,23 @@
 //
 // What the frames are is sender's. Here are the lines.
 ghost use mathlib.Core.Path.{_≡_};
-ghost use Prim.Native.Nat.{_-_, _≤_};
+ghost use Prim.Native.Nat.{_+_, _-_, _*_, _≤_};
 ghost use lib.ListN.{length};
 ghost use Rattle.script_steps.specs.Step.{lent};
-ghost use Rattle.script.specs.Turn.{Ends, turned, turning, isFault, freshPlace, run, running};
+ghost use Rattle.script_recording.specs.Recording.{recordingOf};
+ghost use Rattle.window.specs.Window.{hand};
+ghost use Rattle.script.specs.Turn.{LineEnds, turned, turning, isFault, freshPlace, run, running};
+ghost use Rattle.script.specs.Ended.{Ends, statusOf};
 use libc::STDERR_FILENO;
 use script_settings::Fault;
 use script_settings::State;
+use window::Written;
+
+// The most frames that a script makes.
+const FRAMES: usize = 4096;
+
+// The most octets of a recording: its first nine, those of the frames made, and two before each frame.
+const RECORDING: usize = 73737;
 
 // Whether there is a fault.
 fn faulty(fault: Fault) -> bool
@@ -111,7 +121,7 @@ fn turn(
 // Where the line ends that stands at an index of s.
 fn line_end(s: &[u8], at: usize) -> usize
     requires { ⌜ at ≤ length (now s) ⌝ }
-    ensures { λ r. ⌜ Ends (now (s .entry)) at r ⌝ }
+    ensures { λ r. ⌜ LineEnds (now (s .entry)) at r ⌝ }
 {
     let mut i = at;
     while i < s.len() {
@@ -174,7 +184,44 @@ fn over(
     Ran { place, lines }
 }
 
-// Goes over the lines of a script; at their end the recording is written, at a fault it is said and nothing is written.
+// Hands on the recording that stands at the output's start.
+fn emit(name: &[u8], t: u8, made: &[u8], frames: &[u16], out: &[u8], size: usize) -> Written
+    requires { ⌜ hand (now out) 0 size ≡ recordingOf t (now made) (now frames) ⌝ }
+    ensures { λ r. ⌜ r .size ≡ length (recordingOf t (now (made .entry)) (now (frames .entry))) ⌝ }
+{
+    window::write(name, out, size)
+}
+
+// Lays the recording of the frames that arrive into the output, and hands it on.
+fn hand_on(name: &[u8], t: u8, made: &[u8], frames: &[u16], out: &mut [u8]) -> Written
+    requires { ⌜ 9 + length (now made) + 2 * length (now frames) ≤ length (now out) ⌝ }
+    ensures { λ r. ⌜ r .size ≡ length (recordingOf t (now (made .entry)) (now (frames .entry))) ⌝ }
+{
+    let size = script_recording::lay(t, made, frames, out);
+    emit(name, t, made, frames, out, size)
+}
+
+// What was handed on, and whether a line of the script had a fault.
+struct Ended {
+    written: Written,
+    faulty: bool,
+}
+
+// The exit status.
+fn status(ended: Ended) -> i32
+    ensures { λ r. ⌜ r ≡ statusOf (ended .faulty) (ended .written .failed) ⌝ }
+{
+    if ended.faulty {
+        return window::AGAINST;
+    }
+    let written = ended.written;
+    if written.failed() {
+        return window::BROKEN;
+    }
+    window::DONE
+}
+
+// Goes over the lines of a script; at their end the recording is handed on, at a fault it is said and nothing is handed on.
 fn lines(
     name: &[u8],
     script: &[u8],
@@ -183,42 +230,76 @@ fn lines(
     lengths: &mut [u16],
     made: &mut [u8],
     frames: &mut [u16],
-) {
+    out: &mut [u8],
+) -> Ended
+    requires { ⌜ 9 + length (now made) + 2 * length (now frames) ≤ length (now out) ⌝ }
+    ensures { λ r. ⌜ Ends (running (length (now (script .entry))) freshPlace (now (script .entry)) 0 0
+        (lent (now (stamp .entry)) (now (packets .entry)) (now (lengths .entry)) (now (made .entry)) (now (frames .entry)))) r ⌝ }
+{
     let ran = over(script, stamp, packets, lengths, made, frames);
     let place = ran.place;
     let fault = place.fault;
     if faulty(fault) {
         say(name, ran.lines, fault);
-        return;
+        return Ended {
+            written: Written::none(),
+            faulty: true,
+        };
     }
     let state = place.state;
     let common = state.common;
     let row = state.made;
-    script_recording::record(name, common.t, made, script_steps::front(frames, row.count));
+    let written = hand_on(name, common.t, made, script_steps::front(frames, row.count), out);
+    Ended {
+        written,
+        faulty: false,
+    }
 }
 
-// Makes the recording of the script that comes by the descriptor source, on standard output. What fails is told on standard error,
-// behind the program's name.
-pub fn run(name: &[u8], source: i32) {
+// Makes the recording of the script that comes by the descriptor source, on standard output, and answers the exit status. What fails is told
+// on standard error, behind the program's name.
+pub fn run(name: &[u8], source: i32) -> i32 {
     let mut script = io::large_buffer();
     let n = io::read_full(source, &mut script);
     if script.len() <= n {
         io::write_all(STDERR_FILENO, name);
         io::write_all(STDERR_FILENO, b": the script has above 65,535 octets\n");
-        return;
+        return window::AGAINST;
     }
+    let last = window::refill(name, source, &mut script, 0, n);
+    if last.failed() {
+        return window::BROKEN;
+    }
+    if last.came() != 0 {
+        io::write_all(STDERR_FILENO, name);
+        io::write_all(STDERR_FILENO, b": standard input: a read failed\n");
+        return window::BROKEN;
+    }
+    made_of(name, octets::part(&script, 0, n))
+}
+
+// The same with the script's octets.
+fn made_of(name: &[u8], script: &[u8]) -> i32 {
     let mut stamp = [0u8; 8];
     let mut packets = [0u8; 32768];
     let mut lengths = [0u16; 2048];
     let mut made = io::large_buffer();
-    let mut frames = [0u16; 4096];
-    lines(
+    let mut frames = [0u16; FRAMES];
+    let mut out = no_recording();
+    let ended = lines(
         name,
-        &script[..n],
+        script,
         &mut stamp,
         &mut packets,
         &mut lengths,
         &mut made,
         &mut frames,
+        &mut out,
     );
+    status(ended)
+}
+
+// Room for any recording.
+fn no_recording() -> [u8; RECORDING] {
+    [0u8; RECORDING]
 }

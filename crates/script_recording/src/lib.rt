@@ -1,11 +1,14 @@
-// The frames that a script has made, written as a recording: those that the link does not lose.
+// The frames that a script has made, laid out as a recording: those that the link does not lose.
 //
 // No public function asks anything of a caller.
 ghost use mathlib.Core.Path.{_≡_};
-ghost use Prim.Native.Nat.{_-_, _%_, _^_};
-ghost use Rattle.script_recording.specs.Recording.{lostAt, marked, losing, arrivalsOf, arrivals, headOf};
-use libc::STDERR_FILENO;
-use libc::STDOUT_FILENO;
+ghost use Prim.Native.Nat.{_+_, _-_, _*_, _%_, _^_, _≤_};
+ghost use lib.ListN.{length};
+ghost use Rattle.script_recording.specs.Recording.{lostAt, marked, losing, arrivalsOf, arrivals, headOf, behindOf};
+ghost use Rattle.script_recording.specs.Laid.{LaysOne, LaysFrames, Lays};
+
+// No number of octets.
+pub const NONE: usize = 18446744073709551615;
 
 // Added to the length of a frame that the link loses.
 const LOST: u16 = 32768;
@@ -73,35 +76,67 @@ pub fn head(t: u8, frames: &[u16]) -> [u8; 9]
     [0, 0, 0, 1, t, count[0], count[1], count[2], count[3]]
 }
 
-// Writes one frame behind its length, and answers whether it could.
-fn write_one(octets: &[u8], n: u16) -> bool {
+// Puts a frame that arrives, behind its length, into out from index to on, and answers the index behind it; a lost one puts nothing. The
+// frame's octets stand at the start of rest.
+fn lay_one(rest: &[u8], n: u16, out: &mut [u8], to: usize) -> usize
+    requires { ⌜ to + 2 + length (now rest) ≤ length (now out) ⌝ }
+    ensures { λ r. ⌜ LaysOne (now (rest .entry)) n (now (out .entry)) to r (now (out .exit)) ⌝ }
+{
+    if LOST <= n {
+        return to;
+    }
     let length = octets::word_octets(n);
-    io::write_all(STDOUT_FILENO, &length) && io::write_all(STDOUT_FILENO, octets)
+    octets::put(out, to, &length);
+    let octets = octets::part(rest, 0, n as usize);
+    octets::put(out, to + 2, octets);
+    to + 2 + octets.len()
 }
 
-// Writes the frames that arrive, and answers whether it could.
-fn write_frames(made: &[u8], frames: &[u16]) -> bool {
-    let mut at: usize = 0;
+// The index behind a frame of a length, which may be marked; at most that of the octets' end.
+fn behind(at: usize, n: u16, end: usize) -> usize
+    requires { ⌜ at ≤ end ⌝ }
+    ensures { λ r. ⌜ r ≡ behindOf at n end ⌝ }
+{
+    let size = (n % LOST) as usize;
+    if end - at < size {
+        return end;
+    }
+    at + size
+}
+
+// Lays a recording at the start of out: its first octets, and each frame that arrives behind its length. Answers how many octets it has; if
+// out is too short for all the frames made it stays as it is, and the answer is NONE.
+pub fn lay(t: u8, made: &[u8], frames: &[u16], out: &mut [u8]) -> usize
+    ensures { λ r. ⌜ Lays t (now (made .entry)) (now (frames .entry)) (now (out .entry)) r (now (out .exit)) ⌝ }
+{
+    if out.len() < 9 {
+        return NONE;
+    }
+    let room = out.len() - 9;
+    if room < made.len() {
+        return NONE;
+    }
+    if (room - made.len()) / 2 < frames.len() {
+        return NONE;
+    }
+    let first = head(t, frames);
+    octets::put(out, 0, &first);
+    lay_frames(made, frames, out)
+}
+
+// The same of the frames, behind the first octets.
+fn lay_frames(made: &[u8], frames: &[u16], out: &mut [u8]) -> usize
+    requires { ⌜ 9 + length (now made) + 2 * length (now frames) ≤ length (now out) ⌝ }
+    ensures { λ r. ⌜ LaysFrames (now (made .entry)) (now (frames .entry)) (now (out .entry)) r (now (out .exit)) ⌝ }
+{
+    let mut to = 9;
+    let mut at = 0;
     let mut i = 0;
     while i < frames.len() {
-        let n = frames[i] % LOST;
-        let size = n as usize;
-        if frames[i] < LOST {
-            if !write_one(octets::part(made, at, size), n) {
-                return false;
-            }
-        }
-        at = std::num::wrapping_add_usize(at, size);
+        let n = frames[i];
+        to = lay_one(&made[at..], n, out, to);
+        at = behind(at, n, made.len());
         i += 1;
     }
-    true
-}
-
-// Writes the recording: its first octets, then the frames.
-pub fn record(name: &[u8], t: u8, made: &[u8], frames: &[u16]) {
-    let first = head(t, frames);
-    if !(io::write_all(STDOUT_FILENO, &first) && write_frames(made, frames)) {
-        io::write_all(STDERR_FILENO, name);
-        os::fail(b": standard output");
-    }
+    to
 }
