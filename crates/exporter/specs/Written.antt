@@ -10,7 +10,7 @@ use Rattle.recording.specs.Pieces.{Found, found, settingsIn}
 use Rattle.recording.specs.Reader.{stateOf}
 use Rattle.recording.specs.declared.Reader.{Reader}
 use Rattle.recording.specs.declared.Reader.the-variants as reader
-use Rattle.kiss.specs.Stream.{mark}
+use Rattle.kiss.specs.Stream.{mark, stretchesIn}
 use Rattle.kiss_export.specs.Export.{blockOf, streamOf}
 
 -- What stands in the stream for a frame: its block, with one 0xC0 behind it; if asked, with one before it too.
@@ -53,3 +53,7 @@ pub record WritesAccepted : Type 0 where
   pub writes : (both : Bool) (octets : List ℕ)
       → toWrite both 0 reader.Settings octets ≡ exported both (settingsIn octets .t) (settingsIn octets .frames)
   pub plain : (t : ℕ) (ts : List ℕ) (frames : List (List ℕ)) → exported false (t ∷ ts) frames ≡ streamOf (acceptedOf t frames)
+
+-- A 0xC0 before each frame changes nothing of what is found in the stream.
+abbrev pub FindsTheSame : Type 0
+FindsTheSame = (ts : List ℕ) (frames : List (List ℕ)) → stretchesIn (exported true ts frames) ≡ stretchesIn (exported false ts frames)
