@@ -2,5 +2,5 @@
 use libc::STDIN_FILENO;
 
 fn main() {
-    exporter::run(b"export_kiss", STDIN_FILENO);
+    exporter::run(b"export_kiss", STDIN_FILENO, false);
 }

@@ -27,7 +27,7 @@ use Rattle.kiss_export.specs.Export.{blockOf, streamOf, firstBad, roomFor, expo
 use Rattle.kiss_export.specs.declared.Exported.{Exported}
 use Rattle.kiss_export.specs.declared.Exported.the-variants as exported
 use Rattle.window.specs.Window.{hand}
-use Rattle.exporter.specs.Written.{handedOn}
+use Rattle.exporter.specs.Written.{blockBy, handedOn}
 use Rattle.exporter.specs.Turns.{Fits, HandsOn}
 
 -- ---- room
@@ -65,6 +65,22 @@ by-read false room n refusal octet h = refl
 late : (t : ℕ) (f : List ℕ) → ltb longestTime t ≡ true → readFrame t f ≡ refuse noFrame no.timeLength
 unfolding readFrame
 late t f h = sym (picked _ _ _ h)
+
+-- by where the block begins
+by-both : (both : Bool) (h : ℕ → List ℕ) (x y : List ℕ) → h 0 ≡ x → h 1 ≡ y → h (pick both 0 1) ≡ pick both x y
+unfolding pick
+by-both true h x y p q = p
+by-both false h x y p q = q
+
+block-by : (both : Bool) (f : List ℕ) → pick both (mark ∷ blockOf f) (blockOf f) ≡ blockBy both f
+unfolding pick
+block-by true f = refl
+block-by false f = refl
+
+none : (both : Bool) (out : List ℕ) → hand out (pick both 0 1) 0 ≡ []
+unfolding pick
+none true out = refl
+none false out = refl
 
 module _ (t : ℕ) (f out : List ℕ) (fits : Fits f out) where
   whole : cut f (length f ∷ []) ≡ f ∷ []
@@ -109,10 +125,17 @@ module _ (t : ℕ) (f out : List ℕ) (fits : Fits f out) where
         ∙ ap (λ (l : List ℕ). written (streamOf (cut f l)) out) lengths
         ∙ ap (λ (fs : List (List ℕ)). written (streamOf fs) out) whole in
         let size : length (blockOf f ++ []) ≡ n - 1 = omega (arith, a .1) in
+        let block : hand out′ 1 n ≡ blockOf f =
+        ap (λ (o : List ℕ). hand o 1 n) left
+        ∙ take-at (blockOf f ++ []) (drop (length (stream f)) out) (n - 1) size
+        ∙ append-nil (blockOf f) in
+        let marked : hand out′ 0 n ≡ mark ∷ blockOf f =
+        ap (λ (o : List ℕ). hand o 0 n) left
+        ∙ take-at (stream f) (drop (length (stream f)) out) (n - 0) (omega (arith, a .1))
+        ∙ ap (λ (l : List ℕ). mark ∷ l) (append-nil (blockOf f)) in
         record {
-          says = ap (λ (o : List ℕ). hand o 1 n) left
-              ∙ take-at (blockOf f ++ []) (drop (length (stream f)) out) (n - 1) size
-              ∙ append-nil (blockOf f)
+          says = λ both. by-both both (λ x. hand out′ x n) (mark ∷ blockOf f) (blockOf f) marked block
+              ∙ block-by both f
               ∙ picked _ _ _ (a .0);
           refuses = sym (ap (λ y. y .refusal) (read-tells t f .plain (a .0)));
         }
@@ -121,4 +144,4 @@ module _ (t : ℕ) (f out : List ℕ) (fits : Fits f out) where
     unfolding handedOn
     left-out {q} e =
         let a = refused-is (readFrame t f .accepted) (length (stream f)) (readFrame t f .refusal) (readFrame t f .octet) (ap told (sym e) ∙ answers) in
-        record { says = passed _ _ _ _ (a .0) refl; refuses = a .1 }
+        record { says = λ both. none both out′ ∙ passed _ _ _ _ (a .0) refl; refuses = a .1 }

@@ -1,3 +1,4 @@
 pub mod Handing
 pub mod Turning
 pub mod Whole
+pub mod Same

@@ -1,21 +1,29 @@
 // Lists a recording or a stream that comes by a descriptor, each frame's lines as soon as the frame is whole.
 //
 // What is told is listing's. Here is the loop: each turn goes on with the run that the turns before it made, and no octet is read while
-// text is unwritten. What the system's read and write did is for them to answer.
+// text is unwritten. What the system's read and write did is for them to answer: the state holds what they answered last.
 ghost use Prim.Native.Nat.{_≤_};
 ghost use mathlib.Core.Path.{_≡_};
-ghost use lib.ListN.{length};
+ghost use mathlib.Core.Bool.{false};
+ghost use mathlib.Core.List.{[]};
+ghost use lib.ListN.{length, take};
+ghost use Rattle.lines.specs.Text.{header};
 ghost use Rattle.window.specs.Window.{Refills};
-ghost use Rattle.listing.specs.Contracts.{room};
-ghost use Rattle.lister.specs.Turns.{Turned};
+ghost use Rattle.receiver.specs.Receive.{fresh};
+ghost use Rattle.listing.specs.Contracts.{room, atEnd};
+ghost use Rattle.lister.specs.Turns.{Left, Turned, failedIn, lastOf, statusOf, Looped, Ran};
 use listing::Stop;
 use receiver::Receiver;
 use source::Source;
 use stretch::KEPT;
 use window::Refilled;
+use window::Written;
+
+// The most turns: each but the last reads or writes an octet at least.
+const TURNS: u64 = 18446744073709551615;
 
 // Where a run stands: the receiver, the input's octets from at up to end, which are read and not yet used, how many the last turn used,
-// whether it goes on, whether the recording is bad and that is told, and whether a write failed.
+// whether it goes on, whether the recording is bad and that is told, and what the last turn read and wrote.
 struct State {
     receiver: Receiver,
     at: usize,
@@ -23,76 +31,170 @@ struct State {
     used: usize,
     going: bool,
     over: bool,
-    failed: bool,
+    read: Refilled,
+    written: Written,
 }
 
-// Lists the recording that comes by the descriptor source to standard output. What fails is told on standard error, behind the program's name.
-pub fn run(name: &[u8], source: i32) {
+// Where a run stopped, after how many turns, and what was written at its end.
+struct Stopped {
+    state: State,
+    made: u64,
+    last: Written,
+}
+
+// Lists the recording that comes by the descriptor source to standard output, and answers the program's exit status. What fails is told on
+// standard error, behind the program's name.
+pub fn run(name: &[u8], source: i32) -> i32
+    ensures { λ r. ⌜ Ran [] fresh r ⌝ }
+{
     let mut input = io::large_buffer();
     let mut out = io::large_buffer();
+    let mut kept = [0u8; KEPT];
     let receiver = Receiver::recording();
-    turns(name, source, receiver, &mut input, &mut out);
+    let first = Written::none();
+    let stopped = turns(
+        name,
+        source,
+        receiver,
+        first,
+        &mut input,
+        &mut kept,
+        &mut out,
+    );
+    status(stopped)
 }
 
 // The same of a stream, by a receiver of which nothing is read yet: the header line first.
-pub fn run_stream(name: &[u8], source: i32, receiver: Receiver) {
+pub fn run_stream(name: &[u8], source: i32, receiver: Receiver) -> i32
+    ensures { λ r. ⌜ Ran header receiver r ⌝ }
+{
     let mut input = io::large_buffer();
     let mut out = io::large_buffer();
+    let mut kept = [0u8; KEPT];
     let n = lines::header_line(&mut out, 0);
-    if window::unwritten(name, &out, n) == 0 {
-        turns(name, source, receiver, &mut input, &mut out);
-    }
+    let first = emit(name, &out, n);
+    let stopped = turns(
+        name,
+        source,
+        receiver,
+        first,
+        &mut input,
+        &mut kept,
+        &mut out,
+    );
+    status(stopped)
 }
 
-// The whole run of a receiver, with an input and an output buffer. It ends with the input, a bad recording or a failed write; after
-// 2^64 - 1 turns, of which each but the last reads or writes an octet at least, it would end too.
-fn turns(name: &[u8], source: i32, receiver: Receiver, input: &mut [u8], out: &mut [u8])
-    requires { ⌜ room ≤ length (now out) ⌝ }
+// The exit status of a run: whether it came to its end with no read and no write failed, and the recording was not bad.
+fn status(stopped: Stopped) -> i32
+    ensures { λ r. ⌜ r ≡ statusOf stopped ⌝ }
 {
-    let mut kept = [0u8; KEPT];
+    let state = stopped.state;
+    let last = stopped.last;
+    if state.going | failed(state) | last.failed() {
+        return window::BROKEN;
+    }
+    let receiver = state.receiver;
+    let source = receiver.source;
+    if state.over | source.cut() {
+        return window::AGAINST;
+    }
+    window::DONE
+}
+
+// Whether the last read or the last write failed.
+fn failed(state: State) -> bool
+    ensures { λ r. ⌜ r ≡ failedIn state ⌝ }
+{
+    let read = state.read;
+    let written = state.written;
+    read.failed() | written.failed()
+}
+
+// The whole run of a receiver, with an input and an output buffer, behind a first write. It ends with the input, a bad recording, or a read
+// or write that failed; after 2^64 - 1 turns it would end too.
+fn turns(
+    name: &[u8],
+    source: i32,
+    receiver: Receiver,
+    first: Written,
+    input: &mut [u8],
+    kept: &mut [u8; KEPT],
+    out: &mut [u8],
+) -> Stopped
+    requires { ⌜ room ≤ length (now out) ⌝ }
+    ensures { λ r. ⌜ Looped receiver first (now (input .entry)) (now (kept .entry)) r (now (input .exit)) (now (kept .exit))
+        (now (out .exit)) ⌝ }
+{
+    let read = Refilled::none();
     let mut state = State {
         receiver,
         at: 0,
         end: 0,
         used: 0,
-        going: true,
+        going: !first.failed(),
         over: false,
-        failed: false,
+        read,
+        written: first,
     };
-    let mut left: u64 = 18446744073709551615;
+    let mut made: u64 = 0;
     let mut before = receiver.source;
     let mut from = 0;
     let mut passed: u64 = 0;
-    while left > 0 {
-        if !state.going {
-            ended(name, state, before, input, from, passed);
-            return;
+    while state.going {
+        if made == TURNS {
+            return Stopped {
+                state,
+                made,
+                last: Written::none(),
+            };
         }
-        let last = state.receiver;
-        before = last.source;
+        let receiver = state.receiver;
+        before = receiver.source;
         from = state.at;
-        state = turn(name, source, input, &mut kept, out, state);
+        state = turn(name, source, input, kept, out, state);
         passed = std::num::wrapping_add_u64(passed, state.used as u64);
-        left -= 1;
+        made += 1;
     }
+    let last = ended(name, state, before, input, from, passed, out);
+    Stopped { state, made, last }
 }
 
-// Says why the recording was bad, if it was: the last turn went on from a source at index from of the input, and all turns used passed octets.
-fn ended(name: &[u8], state: State, first: Source, input: &[u8], from: usize, passed: u64) {
-    if state.failed {
-        return;
+// Writes the last line, and says why the recording was bad, if it was: the last turn went on from a source at index from of the input, and
+// all turns used passed octets. Where a read or a write failed, which was told, nothing is known of the recording, and nothing is said.
+fn ended(
+    name: &[u8],
+    state: State,
+    first: Source,
+    input: &[u8],
+    from: usize,
+    passed: u64,
+    out: &mut [u8],
+) -> Written
+    requires { ⌜ room ≤ length (now out) ⌝ }
+    ensures { λ r. ⌜ take (r .size) (now (out .exit)) ≡ lastOf state ⌝ }
+{
+    if failed(state) {
+        return Written::none();
     }
     if state.over {
         let window = window::hand(input, from, state.end);
         faults::tell_over(name, passed, first, window, state.used);
-        return;
+        return Written::none();
     }
     let receiver = state.receiver;
-    let last = receiver.source;
-    faults::tell(name, passed, last, window::hand(input, state.at, state.end));
+    let source = receiver.source;
+    let last = last_line(name, source, out);
+    faults::tell(
+        name,
+        passed,
+        source,
+        window::hand(input, state.at, state.end),
+    );
+    last
 }
 
-// One turn: what the octets at hand tell is written, and if octets are missing more are read; if none come the last line is written.
+// One turn: what the octets at hand tell is written, and if octets are missing more are read.
 fn turn(
     name: &[u8],
     source: i32,
@@ -102,7 +204,8 @@ fn turn(
     state: State,
 ) -> State
     requires { ⌜ room ≤ length (now out) ⌝ }
-    ensures { λ r. ⌜ Turned state (now (input .entry)) (now (kept .entry)) r (now (input .exit)) (now (kept .exit)) ⌝ }
+    ensures { λ r. ⌜ Turned state (now (input .entry)) (now (kept .entry)) (take (r .written .size) (now (out .exit))) r (now (input .exit))
+        (now (kept .exit)) ⌝ }
 {
     let at = state.at;
     let end = state.end;
@@ -111,6 +214,8 @@ fn turn(
     let receiver = listed.receiver;
     let from = at + listed.used;
     let stop = listed.stop;
+    let written = emit(name, out, listed.size);
+    let read = Refilled::none();
     let mut next = State {
         receiver,
         at: from,
@@ -118,12 +223,11 @@ fn turn(
         used: listed.used,
         going: true,
         over: false,
-        failed: false,
+        read,
+        written,
     };
-    let unwritten = window::unwritten(name, out, listed.size);
-    if unwritten != 0 {
+    if written.failed() {
         next.going = false;
-        next.failed = true;
         return next;
     }
     match stop {
@@ -134,37 +238,45 @@ fn turn(
             next
         }
         Stop::Missing(_) => {
-            let refilled = refill(name, source, input, from, end, unwritten);
+            let read = refill(name, source, input, from, end, written);
             next.at = 0;
-            next.end = refilled.have;
-            if refilled.came != 0 {
-                return next;
-            }
-            let last = receiver.source;
-            last_line(name, last, out);
-            next.going = false;
+            next.end = read.have();
+            next.going = !read.failed() & (read.came() != 0);
+            next.read = read;
             next
         }
     }
 }
 
-// Reads more behind the octets at hand. Asked only once no text is unwritten.
+// Writes the first octets of the output, so many: the text that a call of the listing left there, the header or the line of the end, whole,
+// and no other octets. Nothing else here writes.
+fn emit(name: &[u8], out: &[u8], size: usize) -> Written
+    requires { ⌜ Left (now out) size ⌝ }
+    ensures { λ r. ⌜ take (r .size) (now (out .entry)) ≡ take size (now (out .entry)) ⌝ }
+{
+    window::write(name, out, size)
+}
+
+// Reads more behind the octets at hand. Asked only once the text is written.
 fn refill(
     name: &[u8],
     source: i32,
     input: &mut [u8],
     at: usize,
     end: usize,
-    unwritten: usize,
+    written: Written,
 ) -> Refilled
-    requires { ⌜ unwritten ≡ 0 ⌝ }
+    requires { ⌜ written .failed ≡ false ⌝ }
     ensures { λ r. ⌜ Refills (now (input .entry)) at end (now (input .exit)) r ⌝ }
 {
     window::refill(name, source, input, at, end)
 }
 
 // Writes what is told at the input's end.
-fn last_line(name: &[u8], source: Source, out: &mut [u8]) {
+fn last_line(name: &[u8], source: Source, out: &mut [u8]) -> Written
+    requires { ⌜ room ≤ length (now out) ⌝ }
+    ensures { λ r. ⌜ take (r .size) (now (out .exit)) ≡ atEnd source ⌝ }
+{
     let n = listing::end(source, out, 0);
-    window::unwritten(name, out, n);
+    emit(name, out, n)
 }

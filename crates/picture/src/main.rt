@@ -1,23 +1,20 @@
-// The program: the words IMAGE GREYMAP LINES, and then those that name the input on standard input: an image of it as a greymap in one file,
-// its line numbers in another.
+// The program: the words IMAGE and greymap or lines, and then those that name the input on standard input: the image of that number as a
+// greymap on standard output, or the numbers of its lines.
 use libc::STDIN_FILENO;
 
 fn main() {
-    if inputs::refused(b"picture", 4) {
+    if inputs::refused(b"picture", 3) {
         return;
     }
     let mut image = io::buffer();
-    let mut grey = io::buffer();
-    let mut lines = io::buffer();
+    let mut what = io::buffer();
     let i = os::arg(1, &mut image);
-    let g = os::arg(2, &mut grey);
-    let l = os::arg(3, &mut lines);
+    let w = os::arg(2, &mut what);
     pictures::run(
         b"picture",
         &image[..i],
-        &grey[..g],
-        &lines[..l],
+        octets::same(&what[..w], b"lines"),
         STDIN_FILENO,
-        inputs::by_words(4),
+        inputs::by_words(3),
     );
 }

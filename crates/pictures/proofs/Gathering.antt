@@ -7,6 +7,7 @@ use native.Mathlib.Omega.{arith}
 use types.Run.{OneOf, miss}
 use denote.Enum.Declared.{tagOf}
 use lib.Dec.{eqb}
+use borrow.Author.Tests.{eqb-true}
 use lib.ListN.{length, take, drop, length-append, length-map}
 use lib.Seq.{take-at, drop-at}
 use Rattle.octets.specs.Parts.{part, written}
@@ -45,13 +46,15 @@ use Rattle.receiver.specs.declared.Event.the-variants as event
 use Rattle.receiver.proofs.Enough.{same-outcome}
 use Rattle.image.specs.Placing.{outcome}
 use Rattle.telling.specs.Counts.{counted}
-use Rattle.feed.specs.Pull.{handOf, atEnd, pulled, Pulls}
+use Rattle.window.specs.declared.Refilled.{Refilled}
+use Rattle.feed.specs.Pull.{handOf, atEnd, pulled, Missed, Pulls}
 use Rattle.feed.specs.declared.Pull.{Pull}
 use Rattle.feed.specs.declared.Pull.the-variants as pull
 use Rattle.feed.specs.declared.Pulled.{Pulled}
 use Rattle.feed.proofs.Pull.{the-type}
 use Rattle.pictures.specs.Received.{Received, leaving, allPlaced, packetsIn}
-use Rattle.pictures.specs.Gathered.{Gathered, handedPlaced, withStep, withItems, withOctets, withTells, withAnswer, withPull, goesOn, Heeds, Turned, PlacesHanded}
+use Rattle.pictures.specs.Gathered.{Gathered, handedPlaced, withStep, withItems, withOctets, withTells, withAnswer, withPull}
+use Rattle.pictures.specs.Gathered.{goesOn, foundBad, Heeds, Turned, PlacesHanded}
 use Rattle.pictures.specs.declared.State.{State}
 
 -- ---- the packets that stand in the lent octets are those that were handed out
@@ -276,23 +279,78 @@ module _ (wanted : ℕ) (octets lengths : List ℕ) (g : Gathered) where
   pub one-answered : {p : Pull} {a : StepAnswer} {g′ : Gathered} → p ≡ pull.Answered a → g′ ≡ withAnswer wanted a octets lengths g → Heeds wanted p octets lengths g true g′
   one-answered h e = record { goes = ap goesOn (sym h); gathers = e ∙ ap (λ (y : Pull). withPull wanted y octets lengths g) (sym h) }
 
-pub turned : (wanted : ℕ) (s : State) (input kept : List ℕ) {l : Lent} (g : Gathered) {r : Pulled} {input′ kept′ : List ℕ} {l′ : Lent} {going : Bool} {g′ : Gathered} → Enough l
-    → Pulls (s .feed) input (s .receiver) kept l r input′ kept′ l′ → Heeds wanted (r .pull) (l′ .octets) (l′ .lengths) g going g′
-    → Turned wanted s input kept l g (record { feed = r .feed; receiver = r .receiver; going = going }) input′ kept′ l′ g′
-turned wanted s input kept {l} g {r} {input′} {kept′} {l′} {going} {g′} enough x h =
+pub is-bad : (p : Pull) → OneOf (3 ∷ 5 ∷ []) (tagOf the-type p) → true ≡ foundBad p
+is-bad pull.More k = absurd (miss (3 ∷ 5 ∷ []) 0 tt k)
+is-bad pull.Opened k = absurd (miss (3 ∷ 5 ∷ []) 1 tt k)
+is-bad (pull.Answered a) k = absurd (miss (3 ∷ 5 ∷ []) 2 tt k)
+is-bad pull.Bad k = refl
+is-bad pull.End k = absurd (miss (3 ∷ 5 ∷ []) 4 tt k)
+is-bad pull.Cut k = refl
+is-bad pull.Failed k = absurd (miss (3 ∷ 5 ∷ []) 6 tt k)
+
+pub not-bad : (p : Pull) → OneOf (0 ∷ 1 ∷ 2 ∷ 4 ∷ 6 ∷ []) (tagOf the-type p) → false ≡ foundBad p
+not-bad pull.More k = refl
+not-bad pull.Opened k = refl
+not-bad (pull.Answered a) k = refl
+not-bad pull.Bad k = absurd (miss (0 ∷ 1 ∷ 2 ∷ 4 ∷ 6 ∷ []) 3 tt k)
+not-bad pull.End k = refl
+not-bad pull.Cut k = absurd (miss (0 ∷ 1 ∷ 2 ∷ 4 ∷ 6 ∷ []) 5 tt k)
+not-bad pull.Failed k = refl
+
+-- none came where a run ends with no failed read; a failed read ends it
+none-came : (e : Event) (s : Source) (r : Refilled) → Missed e r → goesOn (pulled e s (r .failed) (r .came)) ≡ false → r .failed ≡ false
+    → r .came ≡ 0
+unfolding atEnd
+none-came (event.Missing n) s r m g f =
+    let P : Pull → Type 0 = λ x. goesOn x ≡ false → r .came ≡ 0 in
+    picks P (r .failed) _ _ (λ t _. absurd (true≢false (sym t ∙ f)))
+    (λ _. picks P (eqb (r .came) 0) _ _ (λ z _. eqb-true (r .came) 0 z) (λ _ h. absurd (true≢false h))) g
+none-came event.Bad s r m g f = ap (λ (x : Refilled). x .came) m
+none-came event.Over s r m g f = ap (λ (x : Refilled). x .came) m
+none-came event.Opened s r m g f = absurd (true≢false g)
+none-came event.Nothing s r m g f = absurd (true≢false g)
+none-came (event.Answered a) s r m g f = absurd (true≢false g)
+
+failed-ends : (e : Event) (s : Source) (r : Refilled) → Missed e r → r .failed ≡ true → goesOn (pulled e s (r .failed) (r .came)) ≡ false
+unfolding atEnd pick
+failed-ends (event.Missing n) s r m f =
+    ap (λ (b : Bool). goesOn (pick b pull.Failed (pick (eqb (r .came) 0) (pick (cutAt s) pull.Cut pull.End) pull.More))) f
+failed-ends event.Bad s r m f = refl
+failed-ends event.Over s r m f = refl
+failed-ends event.Opened s r m f = absurd (true≢false (sym f ∙ ap (λ (x : Refilled). x .failed) m))
+failed-ends event.Nothing s r m f = absurd (true≢false (sym f ∙ ap (λ (x : Refilled). x .failed) m))
+failed-ends (event.Answered a) s r m f = absurd (true≢false (sym f ∙ ap (λ (x : Refilled). x .failed) m))
+
+empty : (l : List ℕ) → length l ≡ 0 → l ≡ []
+empty [] h = refl
+empty (x ∷ l) h = absurd (omega arith)
+
+pub turned : (wanted : ℕ) (s : State) (input kept : List ℕ) {l : Lent} (g : Gathered) (r : Pulled) {input′ kept′ : List ℕ} {l′ : Lent}
+    {going bad : Bool} {g′ : Gathered} → Enough l → Pulls (s .feed) input (s .receiver) kept l r input′ kept′ l′
+    → Heeds wanted (r .pull) (l′ .octets) (l′ .lengths) g going g′ → bad ≡ foundBad (r .pull)
+    → Turned wanted s input kept l g (record { feed = r .feed; receiver = r .receiver; going = going; bad = bad; read = r .read })
+    input′ kept′ l′ g′
+turned wanted s input kept {l} g r {input′} {kept′} {l′} {going} {bad} {g′} enough x h b =
     let a : Receiver = s .receiver in
     let w : List ℕ = handOf (s .feed) input in
-    let e : g′ ≡ next wanted a kept w enough (x .calls) g = h .gathers ∙ gathers wanted a kept w enough (x .calls) g (x .failed) (length (x .piece)) (x .tells) in
+    let failed = r .read .failed in
+    let came = r .read .came in
+    let e : g′ ≡ next wanted a kept w enough (x .calls) g =
+    h .gathers ∙ gathers wanted a kept w enough (x .calls) g failed came (x .tells) in
+    let stops : going ≡ goesOn (pulled (x .received .event) (a .source) failed came) = h .goes ∙ ap goesOn (x .tells) in
     record {
       pulled = r .pull;
       pulls = x;
       going = h .goes;
+      bad = b;
       gathers = e;
       goes = λ p. from-there wanted a kept w enough (x .calls) g (x .piece ++ p)
           ∙ ap (λ (y : Gathered). withOctets wanted (x .received .receiver) kept′ (drop (x .received .used) w ++ (x .piece ++ p)) y) (sym e)
           ∙ ap (λ (y : List ℕ). withOctets wanted (x .received .receiver) kept′ y g′) (sym (append-assoc (drop (x .received .used) w) (x .piece) p) ∙ ap (λ (y : List ℕ). y ++ p) (sym (x .window)))
           ∙ ap (λ (b : Receiver). withOctets wanted b kept′ (handOf (r .feed) input′ ++ p) g′) (sym (x .receiver));
-      ends = λ f. e ∙ ends wanted a kept w enough (x .calls) g (x .failed) (length (x .piece)) (x .tells) (sym (h .goes) ∙ f);
+      ends = λ f. e ∙ ends wanted a kept w enough (x .calls) g failed came (x .tells) (sym (h .goes) ∙ f);
+      none = λ f d. empty (x .piece) (x .many ∙ none-came (x .received .event) (a .source) (r .read) (x .only) (sym stops ∙ f) d);
+      fails = λ f. stops ∙ failed-ends (x .received .event) (a .source) (r .read) (x .only) f;
     }
 
 -- ---- what is placed is what is handed out

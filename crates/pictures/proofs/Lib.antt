@@ -1,3 +1,4 @@
 pub mod Packets
 pub mod Gathering
 pub mod Drawing
+pub mod Whole

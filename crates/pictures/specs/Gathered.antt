@@ -99,6 +99,16 @@ goesOn pull.End = false
 goesOn pull.Cut = false
 goesOn pull.Failed = false
 
+-- Whether the recording is bad.
+abbrev pub foundBad : Pull → Bool
+foundBad pull.More = false
+foundBad pull.Opened = false
+foundBad (pull.Answered a) = false
+foundBad pull.Bad = true
+foundBad pull.End = false
+foundBad pull.Cut = true
+foundBad pull.Failed = false
+
 -- What was heeded: whether the run goes on, and what is gathered then.
 pub record Heeds (wanted : ℕ) (p : Pull) (octets lengths : List ℕ) (g : Gathered) (going : Bool) (g′ : Gathered) : Type 0 where
   pub goes : going ≡ goesOn p
@@ -112,14 +122,18 @@ atHand s input = handOf (s .feed) input
 pub record Turned (wanted : ℕ) (s : State) (input kept : List ℕ) (l : Lent) (g : Gathered) (r : State) (input′ kept′ : List ℕ) (l′ : Lent) (g′ : Gathered) : Type 0 where
   -- It is a call of the feed, and what that told says whether the run goes on.
   pub pulled : Pull
-  pub pulls : Pulls (s .feed) input (s .receiver) kept l (record { feed = r .feed; receiver = r .receiver; pull = pulled }) input′ kept′ l′
+  pub pulls : Pulls (s .feed) input (s .receiver) kept l
+      (record { feed = r .feed; receiver = r .receiver; pull = pulled; read = r .read }) input′ kept′ l′
   pub going : r .going ≡ goesOn pulled
+  pub bad : r .bad ≡ foundBad pulled
   -- What is gathered then is by what the receiver told.
   pub gathers : g′ ≡ withTells wanted (receipt (s .receiver) kept (atHand s input) l .tells) (receipt (s .receiver) kept (atHand s input) l .packets) g
   -- Whatever comes behind the piece that was read, the whole comes to the same from here on as from there on.
   pub goes : (p : List ℕ) → withOctets wanted (s .receiver) kept (atHand s input ++ (pulls .piece ++ p)) g ≡ withOctets wanted (r .receiver) kept′ (atHand r input′ ++ p) g′
-  -- Where the run ends all is gathered that the octets at hand make.
+  -- Where the run ends all is gathered that the octets at hand make, and no more came, unless a read failed.
   pub ends : r .going ≡ false → g′ ≡ withOctets wanted (s .receiver) kept (atHand s input) g
+  pub none : r .going ≡ false → r .read .failed ≡ false → pulls .piece ≡ []
+  pub fails : r .read .failed ≡ true → r .going ≡ false
 
 -- ---- what is placed is what is handed out
 

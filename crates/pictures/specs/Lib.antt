@@ -1,3 +1,4 @@
 pub mod Received
 pub mod Gathered
 pub mod Files
+pub mod Whole

@@ -1,10 +1,14 @@
-// A picture of one image of a recording or a stream: every packet that is handed out is placed, what is refused is counted, and at the end both files are
-// written.
+// A picture of one image of a recording or a stream: every packet that is handed out is placed, what is refused is counted, and at the end
+// the image is written as a greymap, or its line numbers as text.
+//
+// What computes is apart from what writes: nothing is written before the input's end, and nothing at all if a read failed.
 ghost use mathlib.Core.Path.{_≡_};
+ghost use lib.ListN.{length};
 ghost use Rattle.session.specs.Lent.{lent, Enough};
 ghost use Rattle.image.specs.Line.{imageOf, Room};
-ghost use Rattle.pictures.specs.Gathered.{gathered, withAnswer, Heeds, Turned};
-ghost use Rattle.pictures.specs.Files.{Drawable, Drawn};
+ghost use Rattle.pictures.specs.Gathered.{gathered, withAnswer, foundBad, Heeds, Turned};
+ghost use Rattle.pictures.specs.Files.{Drawable, Drawn, shownOf, noLine};
+ghost use Rattle.pictures.specs.Whole.{Looped, Finished};
 use feed::Feed;
 use feed::Pull;
 use greymap::Lengths;
@@ -12,47 +16,46 @@ use greymap::PictureWritten;
 use receiver::Receiver;
 use session::StepAnswer;
 use stretch::KEPT;
+use window::Refilled;
+use window::Written;
 
 mod placing;
 
 // One more than the greatest number of a refusal.
 const NUMBERS: usize = 124;
 
-// Where a run stands: the feed and the receiver, and whether it goes on.
+// The most turns.
+const TURNS: u64 = 18446744073709551615;
+
+// Where a run stands: the feed and the receiver, whether it goes on, whether the recording was found bad, and what the last turn read.
 struct State {
     feed: Feed,
     receiver: Receiver,
     going: bool,
+    bad: bool,
+    read: Refilled,
+}
+
+// Where a run stopped, and after how many turns.
+struct Stopped {
+    state: State,
+    made: u64,
 }
 
 // Places every packet that a fresh receiver hands out of a descriptor, if it is a line of the image, and writes the image as a greymap to
-// the file grey and its line numbers to the file lines. What fails, and then what was refused, is told on standard error, behind the
-// program's name.
-pub fn run(
-    name: &[u8],
-    image: &[u8],
-    grey: &[u8],
-    lines: &[u8],
-    descriptor: i32,
-    receiver: Receiver,
-) {
+// standard output, or if asked its line numbers; answers the program's exit status. What fails, that no line was received, and then what
+// was refused, is told on standard error, behind the program's name.
+pub fn run(name: &[u8], image: &[u8], lines: bool, descriptor: i32, receiver: Receiver) -> i32 {
     let wanted = script_text::number(image);
     if 65535 < wanted {
-        return telling::say(name, b": IMAGE is 0 to 65535\n");
-    }
-    let picture = os::open_overwrite(grey);
-    if picture < 0 {
-        return telling::fail(name, grey);
-    }
-    let list = os::open_overwrite(lines);
-    if list < 0 {
-        return telling::fail(name, lines);
+        telling::say(name, b": IMAGE is 0 to 65535\n");
+        return window::BROKEN;
     }
     let mut pixels = black();
     let mut numbers = [0u32; image::LINES];
     let mut frames = [0u64; NUMBERS];
     let mut packets = [0u64; NUMBERS];
-    receive(
+    let stopped = receive(
         name,
         descriptor,
         wanted as u16,
@@ -62,9 +65,10 @@ pub fn run(
         &mut packets,
         receiver,
     );
-    save(name, &pixels, &numbers, grey, picture, lines, list);
+    let status = finish(name, lines, stopped, &pixels, &numbers);
     telling::tell(name, &frames, b" frame");
     telling::tell(name, &packets, b" packet");
+    status
 }
 
 // An image of which nothing was received.
@@ -82,7 +86,11 @@ fn receive(
     frames: &mut [u64],
     packets: &mut [u64],
     receiver: Receiver,
-) {
+) -> Stopped
+    ensures { λ r. ⌜ Looped wanted receiver
+        (gathered (now (pixels .entry)) (now (numbers .entry)) (now (packets .entry)) (now (frames .entry))) r
+        (gathered (now (pixels .exit)) (now (numbers .exit)) (now (packets .exit)) (now (frames .exit))) ⌝ }
+{
     let mut input = io::large_buffer();
     turns(
         name,
@@ -94,7 +102,7 @@ fn receive(
         frames,
         packets,
         receiver,
-    );
+    )
 }
 
 // The same with an input buffer. It ends with the input, a bad recording or a failed read; after 2^64 - 1 turns it would end too.
@@ -108,21 +116,28 @@ fn turns(
     frames: &mut [u64],
     packets: &mut [u64],
     receiver: Receiver,
-) {
+) -> Stopped
+    ensures { λ r. ⌜ Looped wanted receiver
+        (gathered (now (pixels .entry)) (now (numbers .entry)) (now (packets .entry)) (now (frames .entry))) r
+        (gathered (now (pixels .exit)) (now (numbers .exit)) (now (packets .exit)) (now (frames .exit))) ⌝ }
+{
     let mut kept = [0u8; KEPT];
     let mut octets = [0u8; 501];
     let mut lengths = [0u16; 16];
     let mut firsts = [0u32; 16];
     let feed = Feed::fresh();
+    let read = Refilled::none();
     let mut state = State {
         feed,
         receiver,
         going: true,
+        bad: false,
+        read,
     };
-    let mut left: u64 = 18446744073709551615;
-    while left > 0 {
-        if !state.going {
-            return;
+    let mut made: u64 = 0;
+    while state.going {
+        if made == TURNS {
+            return Stopped { state, made };
         }
         state = turn(
             name,
@@ -139,8 +154,9 @@ fn turns(
             packets,
             state,
         );
-        left -= 1;
+        made += 1;
     }
+    Stopped { state, made }
 }
 
 // One turn: the next section of the octets at hand, or a further read.
@@ -180,6 +196,8 @@ fn turn(
     let feed = pulled.feed;
     let receiver = pulled.receiver;
     let pull = pulled.pull;
+    let read = pulled.read;
+    let bad = found_bad(pull);
     let going = heed(
         pull,
         octets,
@@ -194,6 +212,18 @@ fn turn(
         feed,
         receiver,
         going,
+        bad,
+        read,
+    }
+}
+
+// Whether what was told says that the recording is bad.
+fn found_bad(pull: Pull) -> bool
+    ensures { λ r. ⌜ r ≡ foundBad pull ⌝ }
+{
+    match pull {
+        Pull::Bad | Pull::Cut => true,
+        Pull::More | Pull::Opened | Pull::Answered(_) | Pull::End | Pull::Failed => false,
     }
 }
 
@@ -262,26 +292,80 @@ fn answered(
     }
 }
 
-// Writes an image to both files.
-fn save(
-    name: &[u8],
-    pixels: &[u8],
-    numbers: &[u32],
-    grey: &[u8],
-    picture: i32,
-    lines: &[u8],
-    list: i32,
-)
+// Writes the image, or its line numbers, if the whole input was taken and a line of it was received; answers the exit status.
+fn finish(name: &[u8], lines: bool, stopped: Stopped, pixels: &[u8], numbers: &[u32]) -> i32
     requires { ⌜ Room (imageOf (now pixels) (now numbers)) ⌝ }
+    ensures { λ r. ⌜ Finished lines stopped (imageOf (now (pixels .entry)) (now (numbers .entry))) r ⌝ }
+{
+    let state = stopped.state;
+    let read = state.read;
+    if state.going | read.failed() {
+        return window::BROKEN;
+    }
+    if none_received(numbers) {
+        telling::say(name, b": no line of the image was received\n");
+        return window::AGAINST;
+    }
+    let written = show(name, lines, pixels, numbers);
+    if written.failed() {
+        return window::BROKEN;
+    }
+    if state.bad {
+        return window::AGAINST;
+    }
+    window::DONE
+}
+
+// Whether no line was received: no line has the number of a frame.
+fn none_received(numbers: &[u32]) -> bool
+    ensures { λ r. ⌜ r ≡ noLine (now (numbers .entry)) ⌝ }
+{
+    let mut i = 0;
+    while i < numbers.len() {
+        if numbers[i] != 0 {
+            return false;
+        }
+        i += 1;
+    }
+    true
+}
+
+// Writes an image as a greymap, or its line numbers.
+fn show(name: &[u8], lines: bool, pixels: &[u8], numbers: &[u32]) -> Written
+    requires { ⌜ Room (imageOf (now pixels) (now numbers)) ⌝ }
+    ensures { λ r. ⌜ r .size ≡ length (shownOf lines (imageOf (now (pixels .entry)) (now (numbers .entry)))) ⌝ }
 {
     let mut out = empty();
     let mut text = [0u8; greymap::TEXT];
     let drawn = draw(pixels, numbers, &mut out, &mut text);
-    put(name, grey, picture, octets::part(&out, 0, drawn.grey));
-    put(name, lines, list, octets::part(&text, 0, drawn.text));
+    if lines {
+        return emit(
+            name,
+            true,
+            pixels,
+            numbers,
+            octets::part(&text, 0, drawn.text),
+        );
+    }
+    emit(
+        name,
+        false,
+        pixels,
+        numbers,
+        octets::part(&out, 0, drawn.grey),
+    )
 }
 
-// Leaves both files' octets at the start of two outputs, and answers how many there are. Both have room: nothing is refused.
+// Writes octets that are an image's greymap or its line numbers, all of them and no others. Nothing else here writes.
+fn emit(name: &[u8], lines: bool, pixels: &[u8], numbers: &[u32], octets: &[u8]) -> Written
+    requires { ⌜ now octets ≡ shownOf lines (imageOf (now pixels) (now numbers)) ⌝ }
+    ensures { λ r. ⌜ r .size ≡ length (shownOf lines (imageOf (now (pixels .entry)) (now (numbers .entry)))) ⌝ }
+{
+    window::write(name, octets, octets.len())
+}
+
+// Leaves the octets of the greymap and of the line numbers at the start of two outputs, and answers how many there are. Both have room:
+// nothing is refused.
 fn draw(pixels: &[u8], numbers: &[u32], out: &mut [u8], text: &mut [u8]) -> Lengths
     requires { ⌜ Drawable (imageOf (now pixels) (now numbers)) (now out) (now text) ⌝ }
     ensures { λ r. ⌜ Drawn (imageOf (now (pixels .entry)) (now (numbers .entry))) r (now (out .exit)) (now (text .exit)) ⌝ }
@@ -295,16 +379,4 @@ fn draw(pixels: &[u8], numbers: &[u32], out: &mut [u8], text: &mut [u8]) -> Leng
 // Room for a greymap.
 fn empty() -> [u8; greymap::OCTETS] {
     [0u8; greymap::OCTETS]
-}
-
-// Writes octets to a file that is open, and closes it.
-fn put(name: &[u8], path: &[u8], file: i32, octets: &[u8]) {
-    if !io::write_all(file, octets) {
-        telling::fail(name, path);
-        libc::close(file);
-        return;
-    }
-    if libc::close(file) < 0 {
-        telling::fail(name, path);
-    }
 }

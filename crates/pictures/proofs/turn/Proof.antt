@@ -8,13 +8,22 @@ use Rattle.pictures.proofs.turn.Tie as tie
 
 returns : tie.Need-returns
 returns c =
-    let s = c .before .before .before .before .before .before .before .before .before .before .before .before .before .before .before .before .before .before .before .before .before .before .before .before .before .before .before .before .before .before .before .before .before .before .before .before .before .before .before .before .before .before in
-    let a = s .args in
-    turned (a .wanted) (a .state) (now (a .input)) (now (a .kept)) (gathered (now (a .pixels)) (now (a .numbers)) (now (a .packets)) (now (a .frames))) (s .pre) (c .before .before .before .before .before .before .before .before .before .before .before .before .before .before .before .before .before .before .before .before .before .before .before .before .before .pull .ensures) (c .before .before .before .before .before .before .before .before .heed .ensures)
+    let p8 = c .before .before .before .before .before .before .before .before in
+    let p15 = p8 .before .before .before .before .before .before .before in
+    let p27 = p15 .before .before .before .before .before .before .before .before .before .before .before .before in
+    let p41 = p27 .before .before .before .before .before .before .before .before .before .before .before .before .before .before in
+    let p44 = p41 .before .before .before in
+    let a = p44 .args in
+    turned (a .wanted) (a .state) (now (a .input)) (now (a .kept))
+    (gathered (now (a .pixels)) (now (a .numbers)) (now (a .packets)) (now (a .frames)))
+    (p27 .pull .result) (p44 .pre)
+    (p27 .pull .ensures)
+    (p8 .heed .ensures) (p15 .found-bad .ensures)
 
 pub turn-spec : {M : Type 1} → statement M
 turn-spec =
     tie.close
     (tie.spec
-    (λ c κs. search needs) (λ c κs. search needs) (λ c. search needs) (λ c. search needs) (λ c. search needs)
-    (λ c. search needs) (λ c. search needs) (λ c. search needs) (λ c. search needs) (λ c. search needs) returns)
+    (λ c κs. search needs) (λ c κs. search needs) (λ c κs. search needs) (λ c. search needs) (λ c. search needs)
+    (λ c. search needs) (λ c. search needs) (λ c. search needs) (λ c. search needs) (λ c. search needs)
+    (λ c. search needs) returns)
