@@ -1,12 +1,11 @@
--- All that readings hand to the write: the header, and the lines of all packets that the octets read hand out.
-use Prim.Native.Nat.{ℕ, _≤_}
+-- The whole loop: its turns, the octets that they read and what they hand to the write, and the exit status.
+use Prim.Native.Nat.{ℕ}
 use mathlib.Core.Path.{_≡_}
 use mathlib.Core.Bool.{Bool, false, not, _||_}
 use mathlib.Core.List.{List, [], _++_}
 use lib.IntN.{ℤ}
 use lib.ListN.{length, replicate}
 use Rattle.octets.specs.Pick.{pick}
-use Rattle.csv.specs.Text.{header, longestLine}
 use Rattle.stretch.specs.Stretch.{mostKept}
 use Rattle.session.specs.Lent.{Lent}
 use Rattle.receiver.specs.Run.{roomy}
@@ -19,7 +18,6 @@ use Rattle.value_lines.specs.Output.{pending, failedIn}
 use Rattle.reports.specs.Readings.{Layouts, Begins, Writes}
 use Rattle.reports.specs.declared.State.{State}
 use Rattle.report_turns.specs.Turns.{Turned, handedBy}
-use Rattle.report_turns.specs.Listed.{toAdd}
 use Rattle.report_turns.specs.declared.Standing.{Standing}
 use Rattle.report_turns.specs.declared.Stopped.{Stopped}
 
@@ -96,15 +94,3 @@ notDone s = failedIn (s .state .output) || (s .read .failed || s .going)
 -- The exit status.
 abbrev pub statusOf : Standing → ℤ
 statusOf s = pick (notDone s) broken (pick (s .bad) against done)
-
--- If no read and no write failed, and the turns came to an end, then what was handed to the write is the header and, in their order, the
--- lines of all packets that the octets read hand out; and what was counted is theirs.
-pub record Readings (l : Layouts) (a : Receiver) (counts octets handed counts′ : List ℕ) : Type 0 where
-  pub text : handed ≡ header ++ toAdd l a noneKept octets 0 counts .text
-  pub counted : counts′ ≡ toAdd l a noneKept octets 0 counts .counts
-
-abbrev pub WritesReadings : Type 0
-WritesReadings =
-    (l : Layouts) (a : Receiver) (input out counts : List ℕ) (r : Stopped) (input′ out′ counts′ : List ℕ)
-    → (h : Reported l a input out counts r input′ out′ counts′) → longestLine ≤ length out → notDone (r .standing) ≡ false
-    → Readings l a counts (h .looped .octets) (handedOn h) counts′

@@ -41,13 +41,14 @@ use Rattle.value_lines.specs.declared.Output.{Output}
 use Rattle.value_lines.proofs.Adding.{emptied-size, was-right, put-behind}
 use Rattle.reports.specs.Readings.{Layouts, Begins, Writes}
 use Rattle.reports.specs.declared.State.{State}
 use Rattle.report_turns.specs.Turns.{pullAdds, mayFollow, goesOn, Run, starts, Turned, handedBy}
-use Rattle.report_turns.specs.Listed.{behind, itemsAdd, toAdd}
-use Rattle.report_turns.specs.Written.{Place, placeOf, goingAt, TurnedAt, begins, noneKept, startOf, Looped, withState, Reported, handedOn, notDone, Readings, WritesReadings}
+use Rattle.reported.specs.Listed.{behind, itemsAdd, toAdd}
+use Rattle.report_turns.specs.Written.{Place, placeOf, goingAt, TurnedAt, begins, noneKept, startOf, Looped, withState, Reported, handedOn, notDone}
+use Rattle.reported.specs.Written.{Readings, WritesReadings}
 use Rattle.report_turns.specs.declared.Standing.{Standing}
 use Rattle.report_turns.specs.declared.Stopped.{Stopped}
 use Rattle.report_turns.proofs.Turning.{turns-go-on}
-use Rattle.report_turns.proofs.Listed.{runs-are-listed}
+use Rattle.reported.proofs.Listed.{runs-are-listed}
 
 -- ---- where the turns end nothing more is found
 

@@ -42,8 +42,8 @@ use Rattle.telling.specs.Counts.{counted}
 use Rattle.value_lines.specs.Lines.{Added, adding}
 use Rattle.reports.specs.Readings.{Layouts, handedAs, packetAdds, packetStart, numbered, packetOf, packetsAdd, frameAdds}
 use Rattle.reports.specs.Readings.{Handed as Reading}
 use Rattle.report_turns.specs.Turns.{answerAdds, answerHands, eventAdds, eventHands, Run, starts, reads, takes}
-use Rattle.report_turns.specs.Listed.{asHanded, behind, handedAdd, stepAdds, itemsAdd, toAdd, RunsAreListed}
+use Rattle.reported.specs.Listed.{asHanded, behind, handedAdd, stepAdds, itemsAdd, toAdd, RunsAreListed}
 
 -- ---- a packet in its place
 
