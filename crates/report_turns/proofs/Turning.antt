@@ -24,7 +24,8 @@ use Rattle.reports.specs.Readings.{Layouts, numbered}
 use Rattle.reports.specs.declared.State.{State}
 use Rattle.value_lines.specs.declared.Output.{Output}
 use Rattle.value_lines.proofs.Adding.{was-right}
-use Rattle.report_turns.specs.Turns.{pullAdds, pullHands, eventAdds, eventHands, goesOn, isBad, Heeds, Clears, cleared, Run, reads, takes, Turned, handedBy, TurnsGoOn}
+use Rattle.report_turns.specs.Turns.{pullAdds, pullHands, eventAdds, eventHands, goesOn, isBad, Heeds, Clears, cleared, Run, reads}
+use Rattle.report_turns.specs.Turns.{takes, Turned, handedBy, TurnsGoOn}
 use Rattle.report_turns.specs.Written.{begins}
 use Rattle.report_turns.specs.declared.Standing.{Standing}
 use Rattle.report_turns.proofs.Heeding.{stay-failed, clear-goes, clear-packets}
@@ -32,8 +33,10 @@ use Rattle.report_turns.proofs.Heeding.{stay-failed, clear-goes, clear-
 abbrev pub standing : Feed → Receiver → State → Refilled → Bool → Bool → Standing
 standing f a s r b g = record { feed = f; receiver = a; state = s; read = r; bad = b; going = g }
 
-pub turned : (l : Layouts) {b : Standing} {input kept input′ kept′ out out′ counts counts′ w : List ℕ} {t t′ : Lent} {q : Pulled} {s₁ s₂ : State} {bad g : Bool}
-    → Pulls (b .feed) input (b .receiver) kept t q input′ kept′ t′ → Heeds l (q .pull) t′ out counts (b .state) out′ counts′ s₁ → length out′ ≡ length out
+pub turned : (l : Layouts) {b : Standing} {input kept input′ kept′ out out′ counts counts′ w : List ℕ} {t t′ : Lent} {q : Pulled}
+    {s₁ s₂ : State} {bad g : Bool}
+    → Pulls (b .feed) input (b .receiver) kept t q input′ kept′ t′ → Heeds l (q .pull) t′ out counts (b .state) out′ counts′ s₁
+        → length out′ ≡ length out
     → w ≡ handOf (q .feed) input′ → Clears (length w) out′ s₁ s₂ → bad ≡ isBad (q .pull) → g ≡ goesOn (q .pull) (failedIn (s₂ .output))
     → Turned l b input kept t out counts (standing (q .feed) (q .receiver) s₂ (q .read) bad g) input′ kept′ t′ out′ counts′
 turned l {input′ = input′} {out′ = out′} {q = q} {s₁} {s₂} p h same e c d k = record {
@@ -76,17 +79,20 @@ pub same-hands : (s : Source) (failed : Bool) (n : ℕ) (e : Event) → pullHand
 unfolding atEnd
 same-hands s failed n (event.Missing m) =
     picks (λ (p : Pull). pullHands p ≡ 0) failed _ _ (λ _. refl)
-    (λ _. picks (λ (p : Pull). pullHands p ≡ 0) (eqb n 0) _ _ (λ _. picks (λ (p : Pull). pullHands p ≡ 0) (cutAt s) _ _ (λ _. refl) (λ _. refl)) (λ _. refl))
+    (λ _. picks (λ (p : Pull). pullHands p ≡ 0) (eqb n 0) _ _
+        (λ _. picks (λ (p : Pull). pullHands p ≡ 0) (cutAt s) _ _ (λ _. refl) (λ _. refl)) (λ _. refl))
 same-hands s failed n event.Bad = refl
 same-hands s failed n event.Over = refl
 same-hands s failed n event.Opened = refl
 same-hands s failed n event.Nothing = refl
 same-hands s failed n (event.Answered a) = refl
 
-module _ {l : Layouts} {a₀ : Receiver} {kept₀ counts₀ : List ℕ} {packets₀ : ℕ} {t₀ : Lent} {octets : List ℕ} {kept : List ℕ} {t : Lent} where
+module _ {l : Layouts} {a₀ : Receiver} {kept₀ counts₀ : List ℕ} {packets₀ : ℕ} {t₀ : Lent} {octets : List ℕ} {kept : List ℕ} {t : Lent}
+    where
   run-as : {text text′ counts counts′ : List ℕ} {packets packets′ : ℕ} {a a′ : Receiver} {w w′ : List ℕ}
       → text ≡ text′ → counts ≡ counts′ → packets ≡ packets′ → a ≡ a′ → w ≡ w′
-      → Run l a₀ kept₀ counts₀ packets₀ t₀ octets text counts packets a kept w t → Run l a₀ kept₀ counts₀ packets₀ t₀ octets text′ counts′ packets′ a′ kept w′ t
+      → Run l a₀ kept₀ counts₀ packets₀ t₀ octets text counts packets a kept w t
+          → Run l a₀ kept₀ counts₀ packets₀ t₀ octets text′ counts′ packets′ a′ kept w′ t
   run-as {text} {text′} {counts} {counts′} {packets} {packets′} {a} {a′} {w} {w′} p q m n o r =
       subst (λ (x : List ℕ). Run l a₀ kept₀ counts₀ packets₀ t₀ octets text′ counts′ packets′ a′ kept x t) o
       (subst (λ (x : Receiver). Run l a₀ kept₀ counts₀ packets₀ t₀ octets text′ counts′ packets′ x kept w t) n

@@ -129,15 +129,18 @@ pub data Run (l : Layouts) (a₀ : Receiver) (kept₀ counts₀ : List ℕ) (pac
   reads : {octets text counts : List ℕ} {packets : ℕ} {a : Receiver} {kept w : List ℕ} {t : Lent} (piece : List ℕ)
       → Run l a₀ kept₀ counts₀ packets₀ t₀ octets text counts packets a kept w t
       → Run l a₀ kept₀ counts₀ packets₀ t₀ (octets ++ piece) text counts packets a kept (w ++ piece) t
-  takes : {octets text counts : List ℕ} {packets : ℕ} {a : Receiver} {kept w : List ℕ} {t : Lent} (r : Received) (kept′ : List ℕ) (t′ : Lent)
+  takes : {octets text counts : List ℕ} {packets : ℕ} {a : Receiver} {kept w : List ℕ} {t : Lent} (r : Received) (kept′ : List ℕ)
+      (t′ : Lent)
       → Receives a kept w t r kept′ t′ → Run l a₀ kept₀ counts₀ packets₀ t₀ octets text counts packets a kept w t
-      → Run l a₀ kept₀ counts₀ packets₀ t₀ octets (text ++ eventAdds l (r .event) t′ packets counts .text) (eventAdds l (r .event) t′ packets counts .counts)
+      → Run l a₀ kept₀ counts₀ packets₀ t₀ octets (text ++ eventAdds l (r .event) t′ packets counts .text)
+          (eventAdds l (r .event) t′ packets counts .counts)
       (numbered packets (eventHands (r .event))) (r .receiver) kept′ (drop (r .used) w) t′
 
 -- ---- a turn
 
 -- A call of the feed; what it tells is heeded, the text that this adds goes through the output, and before a read none is left unwritten.
-pub record Turned (l : Layouts) (b : Standing) (input kept : List ℕ) (t : Lent) (out counts : List ℕ) (r : Standing) (input′ kept′ : List ℕ) (t′ : Lent)
+pub record Turned (l : Layouts) (b : Standing) (input kept : List ℕ) (t : Lent) (out counts : List ℕ) (r : Standing)
+    (input′ kept′ : List ℕ) (t′ : Lent)
     (out′ counts′ : List ℕ) : Type 0 where
   pub pulled : Pulled
   pub pulls : Pulls (b .feed) input (b .receiver) kept t pulled input′ kept′ t′
@@ -152,14 +155,17 @@ pub record Turned (l : Layouts) (b : Standing) (input kept : List ℕ) (t : Lent
   pub going : r .going ≡ goesOn (pulled .pull) (failedIn (r .state .output))
 
 -- What it hands to the write: what is written while it is heeded, and before a read what is left.
-abbrev pub handedBy : {l : Layouts} {b : Standing} {input kept : List ℕ} {t : Lent} {out counts : List ℕ} {r : Standing} {input′ kept′ : List ℕ} {t′ : Lent}
+abbrev pub handedBy : {l : Layouts} {b : Standing} {input kept : List ℕ} {t : Lent} {out counts : List ℕ} {r : Standing}
+    {input′ kept′ : List ℕ} {t′ : Lent}
     {out′ counts′ : List ℕ} → Turned l b input kept t out counts r input′ kept′ t′ out′ counts′ → List ℕ
 handedBy {r = r} {input′ = input′} {out′ = out′} m =
     m .heeds .leaves .fills .adds .written ++ cleared (length (handOf (r .feed) input′)) out′ (m .heard)
 
 -- A run that went on: a piece was read, and a text added.
-pub record Went (l : Layouts) (a₀ : Receiver) (kept₀ counts₀ : List ℕ) (packets₀ : ℕ) (t₀ : Lent) (octets text counts : List ℕ) (packets : ℕ)
-    (a : Receiver) (kept w : List ℕ) (t : Lent) (out : List ℕ) (o : Output) (out′ : List ℕ) (o′ : Output) (piece said handed : List ℕ) : Type 0 where
+pub record Went (l : Layouts) (a₀ : Receiver) (kept₀ counts₀ : List ℕ) (packets₀ : ℕ) (t₀ : Lent) (octets text counts : List ℕ)
+    (packets : ℕ)
+    (a : Receiver) (kept w : List ℕ) (t : Lent) (out : List ℕ) (o : Output) (out′ : List ℕ) (o′ : Output)
+        (piece said handed : List ℕ) : Type 0 where
   pub run : Run l a₀ kept₀ counts₀ packets₀ t₀ (octets ++ piece) (text ++ said) counts packets a kept w t
   pub adds : Adds said out o out′ o′
   pub hands : handed ≡ adds .written
@@ -168,9 +174,11 @@ pub record Went (l : Layouts) (a₀ : Receiver) (kept₀ counts₀ : List ℕ) (
 -- it hands to the write.
 abbrev pub TurnsGoOn : Type 0
 TurnsGoOn =
-    (l : Layouts) (b : Standing) (input kept : List ℕ) (t : Lent) (out counts : List ℕ) (r : Standing) (input′ kept′ : List ℕ) (t′ : Lent) (out′ counts′ : List ℕ)
+    (l : Layouts) (b : Standing) (input kept : List ℕ) (t : Lent) (out counts : List ℕ) (r : Standing) (input′ kept′ : List ℕ)
+        (t′ : Lent) (out′ counts′ : List ℕ)
     → (m : Turned l b input kept t out counts r input′ kept′ t′ out′ counts′)
     → (a₀ : Receiver) (kept₀ counts₀ : List ℕ) (packets₀ : ℕ) (t₀ : Lent) (octets text : List ℕ)
     → Run l a₀ kept₀ counts₀ packets₀ t₀ octets text counts (b .state .packets) (b .receiver) kept (handOf (b .feed) input) t
     → Went l a₀ kept₀ counts₀ packets₀ t₀ octets text counts′ (r .state .packets) (r .receiver) kept′ (handOf (r .feed) input′) t′
-    out (b .state .output) out′ (r .state .output) (m .pulls .piece) (pullAdds l (m .pulled .pull) t′ (b .state .packets) counts .text) (handedBy m)
+    out (b .state .output) out′ (r .state .output) (m .pulls .piece) (pullAdds l (m .pulled .pull) t′ (b .state .packets) counts .text)
+        (handedBy m)

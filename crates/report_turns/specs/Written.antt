@@ -41,7 +41,8 @@ goingAt p = p .standing .going
 -- A turn from one place to another, and what it hands to the write.
 pub record TurnedAt (l : Layouts) (p : Place) (said : List ℕ) (q : Place) : Type 0 where
   pub turned :
-      Turned l (p .standing) (p .input) (p .kept) (p .lent) (p .out) (p .counts) (q .standing) (q .input) (q .kept) (q .lent) (q .out) (q .counts)
+      Turned l (p .standing) (p .input) (p .kept) (p .lent) (p .out) (p .counts) (q .standing) (q .input) (q .kept) (q .lent) (q .out)
+          (q .counts)
   pub reads : q .octets ≡ p .octets ++ turned .pulls .piece
   pub says : said ≡ handedBy turned
 
@@ -58,7 +59,8 @@ abbrev pub startOf : Receiver → State → List ℕ → List ℕ → List ℕ �
 startOf a s input out counts = placeOf (begins a s) input noneKept roomy out counts []
 
 -- The contract of the loop: so many turns, one after another, and the octets that they read.
-pub record Looped (l : Layouts) (a : Receiver) (s : State) (input out counts : List ℕ) (standing : Standing) (made : ℕ) (input′ out′ counts′ : List ℕ)
+pub record Looped (l : Layouts) (a : Receiver) (s : State) (input out counts : List ℕ) (standing : Standing) (made : ℕ)
+    (input′ out′ counts′ : List ℕ)
     : Type 0 where
   pub kept : List ℕ
   pub lent : Lent

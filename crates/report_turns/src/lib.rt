@@ -20,8 +20,8 @@ const SECTION: usize = 1026;
 // The most turns.
 const TURNS: u64 = 18446744073709551615;
 
-// Where a run stands: the feed, the receiver, what was handed out and is not yet written, the last turn's read, whether the recording is bad,
-// which was told, and whether more may come.
+// Where a run stands: the feed, the receiver, what was handed out and is not yet written, the last turn's read, whether the recording is
+// bad, which was told, and whether more may come.
 pub struct Standing {
     feed: Feed,
     receiver: Receiver,
@@ -64,8 +64,8 @@ impl Stopped {
     }
 }
 
-// Writes the readings of all that comes by a descriptor to a receiver of which nothing is read yet: the header, what each turn adds, and what
-// is left behind the last turn.
+// Writes the readings of all that comes by a descriptor to a receiver of which nothing is read yet: the header, what each turn adds, and
+// what is left behind the last turn.
 pub fn report(
     name: &[u8],
     descriptor: i32,
@@ -82,14 +82,28 @@ pub fn report(
     counts: &mut [u64],
     fresh: Receiver,
 ) -> Stopped
-    ensures { λ r. ⌜ Reported (layoutsOf (now (text .entry)) (now (apids .entry)) (now (sids .entry)) (now (starts .entry)) n (now (codes .entry))
-        (now (froms .entry)) (now (tos .entry)))
+    ensures { λ r. ⌜ Reported (layoutsOf (now (text .entry)) (now (apids .entry)) (now (sids .entry)) (now (starts .entry)) n
+        (now (codes .entry)) (now (froms .entry)) (now (tos .entry)))
         fresh (now (input .entry)) (now (out .entry)) (now (counts .entry)) r (now (input .exit)) (now (out .exit)) (now (counts .exit)) ⌝ }
 {
     let begun = State::begun(out);
     let first = begun.written(name, out);
     let stopped = turns(
-        name, descriptor, input, text, apids, sids, starts, n, codes, froms, tos, out, counts, first, fresh,
+        name,
+        descriptor,
+        input,
+        text,
+        apids,
+        sids,
+        starts,
+        n,
+        codes,
+        froms,
+        tos,
+        out,
+        counts,
+        first,
+        fresh,
     );
     let mut standing = stopped.standing;
     let last = standing.state;
@@ -119,8 +133,8 @@ fn turns(
     first: State,
     fresh: Receiver,
 ) -> Stopped
-    ensures { λ r. ⌜ Looped (layoutsOf (now (text .entry)) (now (apids .entry)) (now (sids .entry)) (now (starts .entry)) n (now (codes .entry))
-        (now (froms .entry)) (now (tos .entry)))
+    ensures { λ r. ⌜ Looped (layoutsOf (now (text .entry)) (now (apids .entry)) (now (sids .entry)) (now (starts .entry)) n
+        (now (codes .entry)) (now (froms .entry)) (now (tos .entry)))
         fresh first (now (input .entry)) (now (out .entry)) (now (counts .entry)) (r .standing) (r .made)
         (now (input .exit)) (now (out .exit)) (now (counts .exit)) ⌝ }
 {

@@ -47,7 +47,8 @@ use Rattle.reported.specs.Listed.{asHanded, behind, handedAdd, stepAdds,
 
 -- ---- a packet in its place
 
-at-length : (xs : List Handed) (h : Handed) (ys : List Handed) (rest : List ℕ) → at (map length (bare (xs ++ h ∷ ys)) ++ rest) (length xs) ≡ length (h .packet)
+at-length : (xs : List Handed) (h : Handed) (ys : List Handed) (rest : List ℕ)
+    → at (map length (bare (xs ++ h ∷ ys)) ++ rest) (length xs) ≡ length (h .packet)
 at-length [] h ys rest = refl
 at-length (x ∷ xs) h ys rest = at-length xs h ys rest
 
@@ -55,9 +56,11 @@ at-first : (xs : List Handed) (h : Handed) (ys : List Handed) (rest : List ℕ) 
 at-first [] h ys rest = refl
 at-first (x ∷ xs) h ys rest = at-first xs h ys rest
 
-split : (xs : List Handed) (h : Handed) (ys : List Handed) → joined (bare (xs ++ h ∷ ys)) ≡ joined (bare xs) ++ (h .packet ++ joined (bare ys))
+split : (xs : List Handed) (h : Handed) (ys : List Handed)
+    → joined (bare (xs ++ h ∷ ys)) ≡ joined (bare xs) ++ (h .packet ++ joined (bare ys))
 split [] h ys = refl
-split (x ∷ xs) h ys = ap (λ (s : List ℕ). x .packet ++ s) (split xs h ys) ∙ sym (append-assoc (x .packet) (joined (bare xs)) (h .packet ++ joined (bare ys)))
+split (x ∷ xs) h ys = ap (λ (s : List ℕ). x .packet ++ s) (split xs h ys)
+    ∙ sym (append-assoc (x .packet) (joined (bare xs)) (h .packet ++ joined (bare ys)))
 
 cut-out : (a b c : List ℕ) (n : ℕ) → n ≡ length a → part (a ++ (b ++ c)) n (length b) ≡ b
 cut-out a b c n e =
@@ -74,7 +77,8 @@ one-longer [] h = refl
 one-longer (x ∷ xs) h = ap suc (one-longer xs h)
 
 joined-more : (xs : List Handed) (h : Handed) → length (joined (bare (xs ++ h ∷ []))) ≡ length (joined (bare xs)) + length (h .packet)
-joined-more xs h = omega (arith, ap length (split xs h []), length-append (joined (bare xs)) (h .packet ++ []), length-append (h .packet) [])
+joined-more xs h = omega (arith, ap length (split xs h []), length-append (joined (bare xs)) (h .packet ++ []), length-append
+    (h .packet) [])
 
 module _ (l : Layouts) (a : Accepted) (ps : List Handed) (u : Under (a .arrival) ps) (t : Lent) (packets : ℕ) (counts : List ℕ) where
   abbrev octets′ : List ℕ
@@ -89,7 +93,8 @@ module _ (l : Layouts) (a : Accepted) (ps : List Handed) (u : Under (a .arrival)
   abbrev adds : ℕ → Added
   adds i = packetsAdd l a octets′ lengths′ firsts′ packets counts i
 
-  module _ (xs : List Handed) (h : Handed) (ys : List Handed) (e : ps ≡ xs ++ h ∷ ys) (start : packetStart lengths′ (length xs) ≡ length (joined (bare xs))) where
+  module _ (xs : List Handed) (h : Handed) (ys : List Handed) (e : ps ≡ xs ++ h ∷ ys)
+      (start : packetStart lengths′ (length xs) ≡ length (joined (bare xs))) where
     long : at lengths′ (length xs) ≡ length (h .packet)
     long =
         ap (λ (q : List Handed). at (map length (bare q) ++ drop (length (map length (bare ps))) (t .lengths)) (length xs)) e
@@ -116,7 +121,8 @@ module _ (l : Layouts) (a : Accepted) (ps : List Handed) (u : Under (a .arrival)
     next-start = ap (packetStart lengths′) (one-longer xs h) ∙ omega (arith, start, long, joined-more xs h)
 
     next-adds : adds (length (xs ++ h ∷ []))
-        ≡ behind (adds (length xs) .text) (packetAdds l (asHanded (a .channel) (numbered packets (suc (length xs))) h) (adds (length xs) .counts))
+        ≡ behind (adds (length xs) .text)
+            (packetAdds l (asHanded (a .channel) (numbered packets (suc (length xs))) h) (adds (length xs) .counts))
     unfolding packetsAdd
     next-adds =
         ap adds (one-longer xs h)
@@ -130,8 +136,10 @@ module _ (l : Layouts) (a : Accepted) (ps : List Handed) (u : Under (a .arrival)
   all xs (h ∷ ys) e s =
       let next : Added = packetAdds l (asHanded (a .channel) (numbered packets (suc (length xs))) h) (adds (length xs) .counts) in
       all (xs ++ h ∷ []) ys (e ∙ sym (append-assoc xs (h ∷ []) ys)) (next-start xs h ys e s)
-      ∙ ap (λ (x : Added). behind (x .text) (handedAdd l (a .channel) packets (length (xs ++ h ∷ [])) (x .counts) ys)) (next-adds xs h ys e s)
-      ∙ ap (λ (i : ℕ). behind (adds (length xs) .text ++ next .text) (handedAdd l (a .channel) packets i (next .counts) ys)) (one-longer xs h)
+      ∙ ap (λ (x : Added). behind (x .text) (handedAdd l (a .channel) packets (length (xs ++ h ∷ [])) (x .counts) ys))
+          (next-adds xs h ys e s)
+      ∙ ap (λ (i : ℕ). behind (adds (length xs) .text ++ next .text) (handedAdd l (a .channel) packets i (next .counts) ys))
+          (one-longer xs h)
       ∙ ap (λ (x : List ℕ). adding x (handedAdd l (a .channel) packets (suc (length xs)) (next .counts) ys .counts))
       (append-assoc (adds (length xs) .text) (next .text) (handedAdd l (a .channel) packets (suc (length xs)) (next .counts) ys .text))
 
@@ -178,7 +186,8 @@ tellsNext opened ps packets = packets
 tellsNext nothing ps packets = packets
 tellsNext (answered t) ps packets = numbered packets (length ps)
 
-answer-adds : (l : Layouts) (ps : List Handed) (t : Lent) (packets : ℕ) (counts : List ℕ) (x : StepAnswer) → Few-told (toldOf (event.Answered x)) ps
+answer-adds : (l : Layouts) (ps : List Handed) (t : Lent) (packets : ℕ) (counts : List ℕ) (x : StepAnswer)
+    → Few-told (toldOf (event.Answered x)) ps
     → answerAdds l x (laid ps t) packets counts ≡ tellsAdd l (toldOf (event.Answered x)) ps packets counts
 unfolding pick
 answer-adds l ps t packets counts (answer.Accepted a) f = frame-adds l a ps (f .1) t packets counts (f .0)
@@ -196,11 +205,13 @@ event-adds l ps t packets counts (event.Answered x) f = answer-adds l ps t packe
 none-more : (packets : ℕ) → packets < 2 ^ 64 → numbered packets 0 ≡ packets
 none-more packets h = ap (λ (k : ℕ). k % 2 ^ 64) (add-zero packets) ∙ mod-eq-of-lt h
 
-answer-next : (ps : List Handed) (packets : ℕ) (x : StepAnswer) → Few-told (toldOf (event.Answered x)) ps → numbered packets (answerHands x) ≡ numbered packets (length ps)
+answer-next : (ps : List Handed) (packets : ℕ) (x : StepAnswer) → Few-told (toldOf (event.Answered x)) ps
+    → numbered packets (answerHands x) ≡ numbered packets (length ps)
 answer-next ps packets (answer.Accepted a) f = ap (numbered packets) (f .0)
 answer-next ps packets (answer.Refused r) f = ap (numbered packets) (f .0)
 
-event-next : (ps : List Handed) (packets : ℕ) → packets < 2 ^ 64 → (e : Event) → Few-told (toldOf e) ps → numbered packets (eventHands e) ≡ tellsNext (toldOf e) ps packets
+event-next : (ps : List Handed) (packets : ℕ) → packets < 2 ^ 64 → (e : Event) → Few-told (toldOf e) ps
+    → numbered packets (eventHands e) ≡ tellsNext (toldOf e) ps packets
 event-next ps packets h (event.Missing n) f = none-more packets h
 event-next ps packets h event.Bad f = none-more packets h
 event-next ps packets h event.Over f = none-more packets h
@@ -211,38 +222,46 @@ event-next ps packets h (event.Answered x) f = answer-next ps packets x f
 -- ---- a call, and then the rest
 
 after : (l : Layouts) (packets : ℕ) (counts : List ℕ) (rest : List Item) → Tells → List Handed → Session → Added
-after l packets counts rest t ps z = behind (tellsAdd l t ps packets counts .text) (itemsAdd l z (tellsNext t ps packets) (tellsAdd l t ps packets counts .counts) rest)
+after l packets counts rest t ps z = behind (tellsAdd l t ps packets counts .text)
+    (itemsAdd l z (tellsNext t ps packets) (tellsAdd l t ps packets counts .counts) rest)
 
 one-more : (l : Layouts) (packets : ℕ) (counts : List ℕ) (z : Session) (t : Lent) → Enough t → (x : Stretch) (rest : List Item)
-    → itemsAdd l z packets counts (offers x ∷ rest) ≡ after l packets counts rest (answered (offered z x t .answer)) (offered z x t .packets) (offered z x t .session)
+    → itemsAdd l z packets counts (offers x ∷ rest) ≡ after l packets counts rest (answered (offered z x t .answer))
+        (offered z x t .packets) (offered z x t .session)
 unfolding after
 one-more l packets counts z t e x rest =
     ap (λ (o : Outcome). behind (stepAdds l (o .answer) (o .packets) packets counts .text)
-    (itemsAdd l (o .session) (numbered packets (length (o .packets))) (stepAdds l (o .answer) (o .packets) packets counts .counts) rest)) (sym (same-outcome z x t e))
+    (itemsAdd l (o .session) (numbered packets (length (o .packets))) (stepAdds l (o .answer) (o .packets) packets counts .counts) rest))
+        (sym (same-outcome z x t e))
 
-by-taken : (l : Layouts) (packets : ℕ) (counts : List ℕ) (z : Session) (kept w : List ℕ) (t : Lent) → Enough t → (k : Taken) (rest : List Item)
-    → itemsAdd l z packets counts (tells k kept w .items ++ rest) ≡ after l packets counts rest (heard z kept w t k .tells) (heard z kept w t k .packets) (heard z kept w t k .session)
+by-taken : (l : Layouts) (packets : ℕ) (counts : List ℕ) (z : Session) (kept w : List ℕ) (t : Lent) → Enough t
+    → (k : Taken) (rest : List Item)
+    → itemsAdd l z packets counts (tells k kept w .items ++ rest) ≡ after l packets counts rest (heard z kept w t k .tells)
+        (heard z kept w t k .packets) (heard z kept w t k .session)
 unfolding after
 by-taken l packets counts z kept w t e (taken.Missing n) rest = refl
 by-taken l packets counts z kept w t e taken.Bad rest = refl
 by-taken l packets counts z kept w t e taken.Over rest = refl
 by-taken l packets counts z kept w t e (taken.Opened n) rest = refl
 by-taken l packets counts z kept w t e taken.Nothing rest = refl
-by-taken l packets counts z kept w t e (taken.Here from to) rest = one-more l packets counts z t e (found (take (to - from) (drop from w))) rest
+by-taken l packets counts z kept w t e (taken.Here from to) rest = one-more l packets counts z t e
+    (found (take (to - from) (drop from w))) rest
 by-taken l packets counts z kept w t e (taken.Kept n) rest = one-more l packets counts z t e (found (take n kept)) rest
 by-taken l packets counts z kept w t e (taken.Refused n) rest = one-more l packets counts z t e (unread n) rest
 
 finds : (s : Source) (kept w : List ℕ) → Finds s kept w (scanned s kept w) (keptBy s kept w)
 finds s kept w = scans-find .finds (record { answers = refl; keeps = refl })
 
-module _ (l : Layouts) (a : Receiver) (kept w : List ℕ) {t t′ : Lent} {r : Received} {kept′ : List ℕ} (c : Receives a kept w t r kept′ t′) (enough : Enough t) (packets : ℕ) (small : packets < 2 ^ 64)
+module _ (l : Layouts) (a : Receiver) (kept w : List ℕ) {t t′ : Lent} {r : Received} {kept′ : List ℕ}
+    (c : Receives a kept w t r kept′ t′) (enough : Enough t) (packets : ℕ) (small : packets < 2 ^ 64)
     (counts : List ℕ) where
   abbrev ps : List Handed
   ps = received a kept w t .packets
 
   few : Few-told (toldOf (r .event)) ps
   unfolding received
-  few = subst (λ (x : Tells). Few-told x ps) (sym (c .tells)) (heard-few (a .session) (keptBy (a .source) kept w) w t (scanned (a .source) kept w .taken))
+  few = subst (λ (x : Tells). Few-told x ps) (sym (c .tells))
+      (heard-few (a .session) (keptBy (a .source) kept w) w t (scanned (a .source) kept w .taken))
 
   same-adds : eventAdds l (r .event) t′ packets counts ≡ tellsAdd l (received a kept w t .tells) ps packets counts
   same-adds =
@@ -253,25 +272,34 @@ module _ (l : Layouts) (a : Receiver) (kept w : List ℕ) {t t′ : Lent} {r : R
   same-next : numbered packets (eventHands (r .event)) ≡ tellsNext (received a kept w t .tells) ps packets
   same-next = event-next ps packets small (r .event) few ∙ ap (λ (x : Tells). tellsNext x ps packets) (c .tells)
 
-  part-of : (p : List ℕ) → toAdd l a kept (w ++ p) packets counts ≡ after l packets counts (foundIn (r .receiver .source) kept′ (drop (r .used) w ++ p) .items)
+  part-of : (p : List ℕ) → toAdd l a kept (w ++ p) packets counts ≡ after l packets counts
+      (foundIn (r .receiver .source) kept′ (drop (r .used) w ++ p) .items)
       (received a kept w t .tells) ps (r .receiver .session)
   unfolding received
   part-of p =
       ap (λ (f : Found). itemsAdd l (a .session) packets counts (f .items)) (finds (a .source) kept w .next p)
       ∙ by-taken l packets counts (a .session) (keptBy (a .source) kept w) w t enough (scanned (a .source) kept w .taken) _
       ∙ sym
-      (ap (λ (k : List ℕ). after l packets counts (foundIn (r .receiver .source) k (drop (r .used) w ++ p) .items) (received a kept w t .tells) ps (r .receiver .session)) (c .keeps)
-      ∙ ap (λ (n : ℕ). after l packets counts (foundIn (r .receiver .source) (received a kept w t .kept) (drop n w ++ p) .items) (received a kept w t .tells) ps (r .receiver .session)) (c .used)
-      ∙ ap (λ (b : Receiver). after l packets counts (foundIn (b .source) (received a kept w t .kept) (drop (received a kept w t .used) w ++ p) .items) (received a kept w t .tells) ps (b .session)) (c .receiver))
+      (ap (λ (k : List ℕ). after l packets counts (foundIn (r .receiver .source) k (drop (r .used) w ++ p) .items)
+          (received a kept w t .tells) ps (r .receiver .session)) (c .keeps)
+      ∙ ap (λ (n : ℕ). after l packets counts (foundIn (r .receiver .source) (received a kept w t .kept) (drop n w ++ p) .items)
+          (received a kept w t .tells) ps (r .receiver .session)) (c .used)
+      ∙ ap (λ (b : Receiver). after l packets counts
+          (foundIn (b .source) (received a kept w t .kept) (drop (received a kept w t .used) w ++ p) .items)
+          (received a kept w t .tells) ps (b .session)) (c .receiver))
 
   next-part : (p : List ℕ) → toAdd l a kept (w ++ p) packets counts
       ≡ behind (eventAdds l (r .event) t′ packets counts .text)
-      (toAdd l (r .receiver) kept′ (drop (r .used) w ++ p) (numbered packets (eventHands (r .event))) (eventAdds l (r .event) t′ packets counts .counts))
+      (toAdd l (r .receiver) kept′ (drop (r .used) w ++ p) (numbered packets (eventHands (r .event)))
+          (eventAdds l (r .event) t′ packets counts .counts))
   unfolding after
   next-part p =
       part-of p
-      ∙ ap (λ (x : Added). behind (x .text) (toAdd l (r .receiver) kept′ (drop (r .used) w ++ p) (tellsNext (received a kept w t .tells) ps packets) (x .counts))) (sym same-adds)
-      ∙ ap (λ (n : ℕ). behind (eventAdds l (r .event) t′ packets counts .text) (toAdd l (r .receiver) kept′ (drop (r .used) w ++ p) n (eventAdds l (r .event) t′ packets counts .counts))) (sym same-next)
+      ∙ ap (λ (x : Added). behind (x .text)
+          (toAdd l (r .receiver) kept′ (drop (r .used) w ++ p) (tellsNext (received a kept w t .tells) ps packets) (x .counts)))
+          (sym same-adds)
+      ∙ ap (λ (n : ℕ). behind (eventAdds l (r .event) t′ packets counts .text)
+          (toAdd l (r .receiver) kept′ (drop (r .used) w ++ p) n (eventAdds l (r .event) t′ packets counts .counts))) (sym same-next)
 
 -- ---- a run
 
@@ -285,18 +313,23 @@ still-enough ps l e = record {
   firsts = omega (arith, e .firsts, longer (firsts ps) (l .firsts));
 }
 
-module _ {l : Layouts} {a₀ : Receiver} {kept₀ counts₀ : List ℕ} {packets₀ : ℕ} {t₀ : Lent} (enough : Enough t₀) (small : packets₀ < 2 ^ 64) where
-  room : {octets text counts : List ℕ} {packets : ℕ} {a : Receiver} {kept w : List ℕ} {t : Lent} → Run l a₀ kept₀ counts₀ packets₀ t₀ octets text counts packets a kept w t → Enough t
+module _ {l : Layouts} {a₀ : Receiver} {kept₀ counts₀ : List ℕ} {packets₀ : ℕ} {t₀ : Lent} (enough : Enough t₀)
+    (small : packets₀ < 2 ^ 64) where
+  room : {octets text counts : List ℕ} {packets : ℕ} {a : Receiver} {kept w : List ℕ} {t : Lent}
+      → Run l a₀ kept₀ counts₀ packets₀ t₀ octets text counts packets a kept w t → Enough t
   room starts = enough
   room (reads piece run) = room run
-  room (takes {a = a} {kept} {w} {t} r kept′ t′ g run) = subst Enough (sym (g .leaves)) (still-enough (received a kept w t .packets) t (room run))
+  room (takes {a = a} {kept} {w} {t} r kept′ t′ g run) = subst Enough (sym (g .leaves))
+      (still-enough (received a kept w t .packets) t (room run))
 
-  few-numbers : {octets text counts : List ℕ} {packets : ℕ} {a : Receiver} {kept w : List ℕ} {t : Lent} → Run l a₀ kept₀ counts₀ packets₀ t₀ octets text counts packets a kept w t → packets < 2 ^ 64
+  few-numbers : {octets text counts : List ℕ} {packets : ℕ} {a : Receiver} {kept w : List ℕ} {t : Lent}
+      → Run l a₀ kept₀ counts₀ packets₀ t₀ octets text counts packets a kept w t → packets < 2 ^ 64
   few-numbers starts = small
   few-numbers (reads piece run) = few-numbers run
   few-numbers (takes {packets = packets} r kept′ t′ g run) = mod-lt (packets + eventHands (r .event)) (omega arith)
 
-  first : {octets text counts : List ℕ} {packets : ℕ} {a : Receiver} {kept w : List ℕ} {t : Lent} → Run l a₀ kept₀ counts₀ packets₀ t₀ octets text counts packets a kept w t
+  first : {octets text counts : List ℕ} {packets : ℕ} {a : Receiver} {kept w : List ℕ} {t : Lent}
+      → Run l a₀ kept₀ counts₀ packets₀ t₀ octets text counts packets a kept w t
       → (p : List ℕ) → toAdd l a₀ kept₀ (octets ++ p) packets₀ counts₀ ≡ behind text (toAdd l a kept (w ++ p) packets counts)
   first starts p = refl
   first (reads {octets = octets} {text} {counts} {packets} {a} {kept} {w} piece run) p =
@@ -305,12 +338,14 @@ module _ {l : Layouts} {a₀ : Receiver} {kept₀ counts₀ : List ℕ} {packets
       ∙ ap (λ (x : List ℕ). behind text (toAdd l a kept x packets counts)) (sym (append-assoc w piece p))
   first (takes {text = text} {counts} {packets} {a} {kept} {w} {t} r kept′ t′ g run) p =
       let said : List ℕ = eventAdds l (r .event) t′ packets counts .text in
-      let rest : Added = toAdd l (r .receiver) kept′ (drop (r .used) w ++ p) (numbered packets (eventHands (r .event))) (eventAdds l (r .event) t′ packets counts .counts) in
+      let rest : Added = toAdd l (r .receiver) kept′ (drop (r .used) w ++ p) (numbered packets (eventHands (r .event)))
+          (eventAdds l (r .event) t′ packets counts .counts) in
       first run p
       ∙ ap (behind text) (next-part l a kept w g (room run) packets (few-numbers run) counts p)
       ∙ ap (λ (x : List ℕ). adding x (rest .counts)) (sym (append-assoc text said (rest .text)))
 
-  prompt : {octets text counts : List ℕ} {packets : ℕ} {a : Receiver} {kept w : List ℕ} {t : Lent} → Run l a₀ kept₀ counts₀ packets₀ t₀ octets text counts packets a kept w t
+  prompt : {octets text counts : List ℕ} {packets : ℕ} {a : Receiver} {kept w : List ℕ} {t : Lent}
+      → Run l a₀ kept₀ counts₀ packets₀ t₀ octets text counts packets a kept w t
       → (n : ℕ) → Waits (a .source) kept w n → adding text counts ≡ toAdd l a₀ kept₀ octets packets₀ counts₀
   prompt {octets} {text} {counts} {packets} {a} {kept} {w} run n h =
       sym

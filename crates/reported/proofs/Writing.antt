@@ -43,7 +43,8 @@ use Rattle.reports.specs.Readings.{Layouts, Begins, Writes}
 use Rattle.reports.specs.declared.State.{State}
 use Rattle.report_turns.specs.Turns.{pullAdds, mayFollow, goesOn, Run, starts, Turned, handedBy}
 use Rattle.reported.specs.Listed.{behind, itemsAdd, toAdd}
-use Rattle.report_turns.specs.Written.{Place, placeOf, goingAt, TurnedAt, begins, noneKept, startOf, Looped, withState, Reported, handedOn, notDone}
+use Rattle.report_turns.specs.Written.{Place, placeOf, goingAt, TurnedAt, begins, noneKept, startOf, Looped, withState, Reported}
+use Rattle.report_turns.specs.Written.{handedOn, notDone}
 use Rattle.reported.specs.Written.{Readings, WritesReadings}
 use Rattle.report_turns.specs.declared.Standing.{Standing}
 use Rattle.report_turns.specs.declared.Stopped.{Stopped}
@@ -82,10 +83,13 @@ call-none a kept w l {r} c =
     let s : Source = a .source in
     let e : foundIn (a .source) kept w .items
         ≡ tells (scanned (a .source) kept w .taken) (keptBy (a .source) kept w) w .items
-        ++ foundIn (scanned (a .source) kept w .source) (keptBy (a .source) kept w) (drop (scanned (a .source) kept w .used) w ++ []) .items =
-    ap (λ (x : List ℕ). foundIn (a .source) kept x .items) (sym (append-nil w)) ∙ ap (λ (f : Found). f .items) (finds (a .source) kept w .next []) in
+        ++ foundIn (scanned (a .source) kept w .source) (keptBy (a .source) kept w)
+            (drop (scanned (a .source) kept w .used) w ++ []) .items =
+    ap (λ (x : List ℕ). foundIn (a .source) kept x .items) (sym (append-nil w))
+        ∙ ap (λ (f : Found). f .items) (finds (a .source) kept w .next []) in
     subst (None-left (foundIn (a .source) kept w .items)) (sym (c .tells))
-    (heard-none (a .session) (a .source) kept w l (scanned (a .source) kept w) (keptBy (a .source) kept w) (scanned (a .source) kept w .taken)
+    (heard-none (a .session) (a .source) kept w l (scanned (a .source) kept w) (keptBy (a .source) kept w)
+        (scanned (a .source) kept w .taken)
     (finds (a .source) kept w .told) e)
 
 -- a turn that ends the run: nothing was left, nothing came, and nothing is added
@@ -119,7 +123,8 @@ ended xs (event.Answered a) s r n o f h = absurd (true≢false h)
 module _ (l : Layouts) (a : Receiver) (s : State) (input out counts : List ℕ) where
   -- there is a run on the octets read, and what was handed to the write is its text, as far as it is written
   record Gone (text lines : List ℕ) (p : Place) : Type 0 where
-    run : Run l a noneKept counts (s .packets) roomy (p .octets) lines (p .counts) (p .standing .state .packets) (p .standing .receiver) (p .kept)
+    run : Run l a noneKept counts (s .packets) roomy (p .octets) lines (p .counts) (p .standing .state .packets) (p .standing .receiver)
+        (p .kept)
         (handOf (p .standing .feed) (p .input)) (p .lent)
     long : length (p .out) ≡ length out
     failed : failedIn (s .output) ≡ true → failedIn (p .standing .state .output) ≡ true
@@ -132,9 +137,11 @@ module _ (l : Layouts) (a : Receiver) (s : State) (input out counts : List ℕ) 
   abbrev saidBy : {said : List ℕ} {p q : Place} → TurnedAt l p said q → List ℕ
   saidBy {p = p} {q} x = pullAdds l (x .turned .pulled .pull) (q .lent) (p .standing .state .packets) (p .counts) .text
 
-  one-turn : {text lines said : List ℕ} {p q : Place} → Gone text lines p → (x : TurnedAt l p said q) → Gone (text ++ said) (lines ++ saidBy x) q
+  one-turn : {text lines said : List ℕ} {p q : Place} → Gone text lines p → (x : TurnedAt l p said q)
+      → Gone (text ++ said) (lines ++ saidBy x) q
   one-turn {text} {lines} {said} {p} {q} g x =
-      let w = turns-go-on l (p .standing) (p .input) (p .kept) (p .lent) (p .out) (p .counts) (q .standing) (q .input) (q .kept) (q .lent) (q .out)
+      let w = turns-go-on l (p .standing) (p .input) (p .kept) (p .lent) (p .out) (p .counts) (q .standing) (q .input) (q .kept)
+          (q .lent) (q .out)
           (q .counts) (x .turned) a noneKept counts (s .packets) roomy (p .octets) lines (g .run) in
       let before : Output = p .standing .state .output in
       let after : Output = q .standing .state .output in
@@ -171,7 +178,8 @@ module _ (l : Layouts) (a : Receiver) (s : State) (input out counts : List ℕ) 
         → text ++ pending out′ o ≡ pending out (s .output) ++ toAdd l a noneKept octets (s .packets) counts .text
     counted : counts′ ≡ toAdd l a noneKept octets (s .packets) counts .counts
 
-  last-turn : s .packets < 2 ^ 64 → {text lines said : List ℕ} {p q : Place} → Gone text lines p → TurnedAt l p said q → q .standing .read .failed ≡ false
+  last-turn : s .packets < 2 ^ 64 → {text lines said : List ℕ} {p q : Place} → Gone text lines p → TurnedAt l p said q
+      → q .standing .read .failed ≡ false
       → failedIn (q .standing .state .output) ≡ false → q .standing .going ≡ false
       → Told (q .octets) (text ++ said) (q .counts) (q .standing .state .output) (q .out)
   last-turn few {text} {lines} {said} {p} {q} g x read right stop =
@@ -188,18 +196,21 @@ module _ (l : Layouts) (a : Receiver) (s : State) (input out counts : List ℕ) 
       (sym (ap mayFollow (pl .tells)) ∙ sym (ap (goesOn (m .pulled .pull)) right) ∙ sym (m .going) ∙ stop) in
       let adds : pullAdds l (m .pulled .pull) (q .lent) packets (p .counts) ≡ adding [] (p .counts) =
       ap (λ (y : Pull). pullAdds l y (q .lent) packets (p .counts)) (pl .tells) ∙ e .adds l (q .lent) packets (p .counts) in
-      let octets : q .octets ≡ p .octets = x .reads ∙ ap (λ (y : List ℕ). p .octets ++ y) (empty (pl .piece) (pl .many ∙ e .none-came)) ∙ append-nil (p .octets) in
+      let octets : q .octets ≡ p .octets = x .reads ∙ ap (λ (y : List ℕ). p .octets ++ y) (empty (pl .piece) (pl .many ∙ e .none-came))
+          ∙ append-nil (p .octets) in
       let whole : toAdd l a noneKept (q .octets) (s .packets) counts ≡ adding lines (p .counts) =
       ap (λ (y : List ℕ). toAdd l a noneKept y (s .packets) counts) (octets ∙ sym (append-nil (p .octets)))
       ∙ runs-are-listed .first (g .run) roomy-enough few []
-      ∙ ap (λ (y : List ℕ). behind lines (toAdd l (p .standing .receiver) (p .kept) y packets (p .counts))) (append-nil (handOf (p .standing .feed) (p .input)))
+      ∙ ap (λ (y : List ℕ). behind lines (toAdd l (p .standing .receiver) (p .kept) y packets (p .counts)))
+          (append-nil (handOf (p .standing .feed) (p .input)))
       ∙ ap (λ (y : List Item). behind lines (itemsAdd l (p .standing .receiver .session) packets (p .counts) y)) (e .left)
       ∙ ap (λ (y : List ℕ). adding y (p .counts)) (append-nil lines) in
       let h : Gone (text ++ said) (lines ++ saidBy x) q = one-turn g x in
       let said-nothing : lines ++ saidBy x ≡ lines = ap (λ (y : Added). lines ++ y .text) adds ∙ append-nil lines in
       record {
         failed = h .failed;
-        all = λ room f. h .goes room f ∙ ap (λ (y : List ℕ). pending out (s .output) ++ y) (said-nothing ∙ sym (ap (λ (y : Added). y .text) whole));
+        all = λ room f. h .goes room f ∙ ap (λ (y : List ℕ). pending out (s .output) ++ y)
+            (said-nothing ∙ sym (ap (λ (y : Added). y .text) whole));
         counted = m .heeds .leaves .counts ∙ ap (λ (y : Added). y .counts) adds ∙ sym (ap (λ (y : Added). y .counts) whole);
       }
     where
@@ -224,12 +235,15 @@ writes-readings l a input out counts r input′ out′ counts′ h room fine =
     was-right (failedIn (h .last .output)) (failedIn (s .state .output)) (λ f. ap failedIn (h .ends .empties .stays f) ∙ f) wrote in
     let few : h .first .packets < 2 ^ 64 = omega (arith, h .starts .packets, h .begins .packets) in
     let none-yet : h .first .packets ≡ 0 = h .starts .packets ∙ h .begins .packets in
-    let told = all-turns l a (h .first) input (h .headed) counts few (h .looped .loops .made .turns) (or-left (s .read .failed) (s .going) rest) right
+    let told = all-turns l a (h .first) input (h .headed) counts few (h .looped .loops .made .turns)
+        (or-left (s .read .failed) (s .going) rest) right
         (or-right (s .read .failed) (s .going) rest) in
-    let first-right : failedIn (h .first .output) ≡ false = was-right (failedIn (h .first .output)) (failedIn (h .last .output)) (told .failed) right in
+    let first-right : failedIn (h .first .output) ≡ false = was-right (failedIn (h .first .output)) (failedIn (h .last .output))
+        (told .failed) right in
     let text : List ℕ = h .looped .loops .made .text in
     let head : pending (h .headed) (h .begun .output) ≡ header = put-behind (h .begins .heads .header) room in
-    let nothing-left : pending (h .headed) (h .first .output) ≡ [] = ap (λ (n : ℕ). take n (h .headed)) (emptied-size (h .starts .empties) first-right) in
+    let nothing-left : pending (h .headed) (h .first .output) ≡ [] = ap (λ (n : ℕ). take n (h .headed))
+        (emptied-size (h .starts .empties) first-right) in
     record {
       text =
           ap (λ (y : List ℕ). y ++ (text ++ pending out′ (h .last .output))) head

@@ -1,5 +1,5 @@
--- The text of the readings by the input's octets: the lines of all packets that the session hands out of them, in their order, each with its
--- own packet's first and last number, its frame's channel, and its number among all.
+-- The text of the readings by the input's octets: the lines of all packets that the session hands out of them, in their order, each with
+-- its own packet's first and last number, its frame's channel, and its number among all.
 use Prim.Native.Nat.{ℕ, suc, _<_, _^_}
 use mathlib.Core.Path.{_≡_}
 use mathlib.Core.List.{List, [], _∷_, _++_}
@@ -58,10 +58,13 @@ toAdd l a kept w packets counts = itemsAdd l (a .session) packets counts (foundI
 -- Whatever pieces the octets came in:
 pub record RunsAreListed : Type 0 where
   -- the text and the counts so far are the first part of what the octets make, whatever comes;
-  pub first : {l : Layouts} {a₀ : Receiver} {kept₀ counts₀ : List ℕ} {packets₀ : ℕ} {t₀ : Lent} {octets text counts : List ℕ} {packets : ℕ} {a : Receiver} {kept w : List ℕ} {t : Lent}
+  pub first : {l : Layouts} {a₀ : Receiver} {kept₀ counts₀ : List ℕ} {packets₀ : ℕ} {t₀ : Lent} {octets text counts : List ℕ}
+      {packets : ℕ} {a : Receiver} {kept w : List ℕ} {t : Lent}
       → Run l a₀ kept₀ counts₀ packets₀ t₀ octets text counts packets a kept w t → Enough t₀ → packets₀ < 2 ^ 64 → (p : List ℕ)
       → toAdd l a₀ kept₀ (octets ++ p) packets₀ counts₀ ≡ behind text (toAdd l a kept (w ++ p) packets counts)
   -- when a call tells that octets are missing, they are all of it.
-  pub prompt : {l : Layouts} {a₀ : Receiver} {kept₀ counts₀ : List ℕ} {packets₀ : ℕ} {t₀ : Lent} {octets text counts : List ℕ} {packets : ℕ} {a : Receiver} {kept w : List ℕ} {t : Lent}
-      → Run l a₀ kept₀ counts₀ packets₀ t₀ octets text counts packets a kept w t → Enough t₀ → packets₀ < 2 ^ 64 → (n : ℕ) → Waits (a .source) kept w n
+  pub prompt : {l : Layouts} {a₀ : Receiver} {kept₀ counts₀ : List ℕ} {packets₀ : ℕ} {t₀ : Lent} {octets text counts : List ℕ}
+      {packets : ℕ} {a : Receiver} {kept w : List ℕ} {t : Lent}
+      → Run l a₀ kept₀ counts₀ packets₀ t₀ octets text counts packets a kept w t → Enough t₀ → packets₀ < 2 ^ 64 → (n : ℕ)
+          → Waits (a .source) kept w n
       → adding text counts ≡ toAdd l a₀ kept₀ octets packets₀ counts₀

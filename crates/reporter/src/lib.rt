@@ -9,7 +9,8 @@ use receiver::Receiver;
 mod loading;
 
 // Writes the readings of what comes by a descriptor to a receiver of which nothing is read yet, by the layouts in the file at path, to
-// standard output, and answers the exit status. What fails, and then what was refused, is told on standard error, behind the program's name.
+// standard output, and answers the exit status. What fails, and then what was refused, is told on standard error, behind the program's
+// name.
 pub fn run(name: &[u8], path: &[u8], descriptor: i32, fresh: Receiver) -> i32 {
     let mut text = io::large_buffer();
     match loading::load(name, path, &mut text) {
