@@ -4,7 +4,10 @@ use native.Mathlib.Nat.{mod-eq-of-lt, add-zero}
 use native.Mathlib.Omega.{arith}
 use mathlib.Core.Path.{_≡_, refl, sym, ap, subst, _∙_}
 use mathlib.Core.Bool.{Bool, true, false}
-use mathlib.Core.List.{List, [], _∷_}
+use mathlib.Core.List.{List, [], _∷_, _++_, append-nil}
+use lib.Dec.{ltb}
+use borrow.Author.Tests.{ltb-true, ltb-false}
+use Rattle.octets.proofs.Choices.{picks}
 use types.Run.{OneOf, miss}
 use denote.Enum.Declared.{tagOf}
 use Rattle.answer.specs.declared.Refusal.{Refusal}
@@ -16,12 +19,12 @@ use Rattle.feed.specs.declared.Pull.{Pull}
 use Rattle.feed.specs.declared.Pull.the-variants as pull
 use Rattle.feed.proofs.Pull.{the-type}
 use Rattle.telling.specs.Counts.{counted}
-use Rattle.value_lines.specs.Output.{Empties}
-use Rattle.reports.specs.Readings.{Layouts, numbered, Framed}
+use Rattle.value_lines.specs.Output.{pending, failedIn}
+use Rattle.reports.specs.Readings.{Layouts, numbered, Framed, Writes}
 use Rattle.reports.specs.declared.State.{State}
-use Rattle.value_lines.proofs.Adding.{nothing-added, emptied}
+use Rattle.value_lines.proofs.Adding.{emptied-goes}
 use Rattle.value_lines.proofs.Leaving.{nothing-put}
-use Rattle.report_turns.specs.Turns.{mayFollow, goesOn, Heeds, section, Clears}
+use Rattle.report_turns.specs.Turns.{mayFollow, goesOn, isBad, Heeds, section, Clears, cleared}
 
 -- ---- whether more may come
 
@@ -82,10 +85,54 @@ module _ (l : Layouts) {octets lengths firsts out counts : List ℕ} {s : State}
         subst (λ (q : Pull). Heeds l q (lent octets lengths firsts) out counts s out′ counts′ s′) (sym (e ∙ ap pull.Answered k))
         (record { packets = f .packets; leaves = f .leaves })
 
+-- ---- a bad recording
+
+pub bad-is : (p : Pull) → OneOf (3 ∷ 5 ∷ []) (tagOf the-type p) → true ≡ isBad p
+bad-is pull.More k = absurd (miss (3 ∷ 5 ∷ []) 0 tt k)
+bad-is pull.Opened k = absurd (miss (3 ∷ 5 ∷ []) 1 tt k)
+bad-is (pull.Answered a) k = absurd (miss (3 ∷ 5 ∷ []) 2 tt k)
+bad-is pull.Bad k = refl
+bad-is pull.End k = absurd (miss (3 ∷ 5 ∷ []) 4 tt k)
+bad-is pull.Cut k = refl
+bad-is pull.Failed k = absurd (miss (3 ∷ 5 ∷ []) 6 tt k)
+
+pub bad-not : (p : Pull) → OneOf (0 ∷ 1 ∷ 2 ∷ 4 ∷ 6 ∷ []) (tagOf the-type p) → false ≡ isBad p
+bad-not pull.More k = refl
+bad-not pull.Opened k = refl
+bad-not (pull.Answered a) k = refl
+bad-not pull.Bad k = absurd (miss (0 ∷ 1 ∷ 2 ∷ 4 ∷ 6 ∷ []) 3 tt k)
+bad-not pull.End k = refl
+bad-not pull.Cut k = absurd (miss (0 ∷ 1 ∷ 2 ∷ 4 ∷ 6 ∷ []) 5 tt k)
+bad-not pull.Failed k = refl
+
 -- ---- before a read
 
 pub enough-at-hand : {hand : ℕ} {out : List ℕ} {s : State} → section ≤ hand → Clears hand out s s
-enough-at-hand {hand} {out} {s} h = record { packets = refl; adds = nothing-added out (s .output); clear = λ k _. absurd (omega arith) }
+enough-at-hand {hand} {out} {s} h = record { stays = λ _. refl; writes = λ k. absurd (omega arith) }
 
-pub text-written : {hand : ℕ} {out : List ℕ} {s s′ : State} → (s′ .packets ≡ s .packets) × Empties (s .output) (s′ .output) → Clears hand out s s′
-text-written e = record { packets = e .0; adds = emptied (e .1); clear = λ _ f. e .1 .empty f }
+pub text-written : {hand : ℕ} {out : List ℕ} {s s′ : State} → hand < section → Writes out s s′ → Clears hand out s s′
+text-written k e = record { stays = λ h. absurd (omega arith); writes = λ _. e }
+
+-- nothing is added, and what is handed to the write is what was not yet written
+module _ {hand : ℕ} {out : List ℕ} {s s′ : State} (c : Clears hand out s s′) where
+  abbrev Cleared : List ℕ → Type 0
+  Cleared x = failedIn (s′ .output) ≡ false → x ++ pending out (s′ .output) ≡ pending out (s .output) ++ []
+
+  pub clear-goes : Cleared (cleared hand out s)
+  clear-goes =
+      picks Cleared (ltb hand section) _ _ (λ t. emptied-goes (c .writes (ltb-true _ _ t) .empties))
+      (λ f _. ap (λ (x : State). pending out (x .output)) (c .stays (ltb-false _ _ f)) ∙ sym (append-nil (pending out (s .output))))
+
+  pub stay-failed : failedIn (s .output) ≡ true → failedIn (s′ .output) ≡ true
+  stay-failed h = by (ltb hand section) refl
+    where
+      by : (b : Bool) → ltb hand section ≡ b → failedIn (s′ .output) ≡ true
+      by true t = ap failedIn (c .writes (ltb-true _ _ t) .empties .stays h) ∙ h
+      by false f = ap (λ (x : State). failedIn (x .output)) (c .stays (ltb-false _ _ f)) ∙ h
+
+  pub clear-packets : s′ .packets ≡ s .packets
+  clear-packets = by (ltb hand section) refl
+    where
+      by : (b : Bool) → ltb hand section ≡ b → s′ .packets ≡ s .packets
+      by true t = c .writes (ltb-true _ _ t) .packets
+      by false f = ap (λ (x : State). x .packets) (c .stays (ltb-false _ _ f))

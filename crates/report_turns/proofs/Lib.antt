@@ -1,2 +1,4 @@
 pub mod Heeding
 pub mod Turning
+pub mod Loop
+pub mod Unique

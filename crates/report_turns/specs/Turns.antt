@@ -1,9 +1,11 @@
 -- What a turn of the program adds to the readings' text, and what it counts.
-use Prim.Native.Nat.{ℕ, _<_}
+use Prim.Native.Nat.{ℕ, _≤_, _<_}
 use mathlib.Core.Path.{_≡_}
 use mathlib.Core.Bool.{Bool, true, false}
 use mathlib.Core.List.{List, [], _++_}
 use lib.ListN.{length, drop}
+use lib.Dec.{ltb}
+use Rattle.octets.specs.Pick.{pick}
 use Rattle.session.specs.Lent.{Lent}
 use Rattle.session.specs.declared.StepAnswer.{StepAnswer}
 use Rattle.session.specs.declared.StepAnswer.the-variants as answer
@@ -17,9 +19,9 @@ use Rattle.feed.specs.declared.Pulled.{Pulled}
 use Rattle.feed.specs.declared.Pull.{Pull}
 use Rattle.feed.specs.declared.Pull.the-variants as pull
 use Rattle.telling.specs.Counts.{counted}
-use Rattle.value_lines.specs.Output.{Adds}
+use Rattle.value_lines.specs.Output.{pending, failedIn, Adds}
 use Rattle.value_lines.specs.Lines.{Added, adding, Leaves}
-use Rattle.reports.specs.Readings.{Layouts, numbered, frameAdds}
+use Rattle.reports.specs.Readings.{Layouts, numbered, frameAdds, Writes}
 use Rattle.reports.specs.declared.State.{State}
 use Rattle.value_lines.specs.declared.Output.{Output}
 use Rattle.report_turns.specs.declared.Standing.{Standing}
@@ -86,6 +88,16 @@ abbrev pub goesOn : Pull → Bool → Bool
 goesOn p true = false
 goesOn p false = mayFollow p
 
+-- The recording is bad.
+abbrev pub isBad : Pull → Bool
+isBad (pull.Answered a) = false
+isBad pull.More = false
+isBad pull.Opened = false
+isBad pull.Bad = true
+isBad pull.End = false
+isBad pull.Cut = true
+isBad pull.Failed = false
+
 -- What was told is heeded: its packets are added and numbered, its refusal is counted.
 pub record Heeds (l : Layouts) (p : Pull) (t : Lent) (out counts : List ℕ) (s : State) (out′ counts′ : List ℕ) (s′ : State) : Type 0 where
   pub packets : s′ .packets ≡ numbered (s .packets) (pullHands p)
@@ -97,11 +109,14 @@ pub record Heeds (l : Layouts) (p : Pull) (t : Lent) (out counts : List ℕ) (s 
 abbrev pub section : ℕ
 section = 1026
 
--- With fewer at hand no text is left unwritten, unless a write failed; nothing is added.
+-- With fewer at hand the text is written; else all stays.
 pub record Clears (hand : ℕ) (out : List ℕ) (s s′ : State) : Type 0 where
-  pub packets : s′ .packets ≡ s .packets
-  pub adds : Adds [] out (s .output) out (s′ .output)
-  pub clear : hand < section → s′ .output .failed ≡ false → s′ .output .size ≡ 0
+  pub stays : section ≤ hand → s′ ≡ s
+  pub writes : hand < section → Writes out s s′
+
+-- The text that is handed to the write then.
+abbrev pub cleared : ℕ → List ℕ → State → List ℕ
+cleared hand out s = pick (ltb hand section) (pending out (s .output)) []
 
 -- ---- a run
 
@@ -114,40 +129,56 @@ pub data Run (l : Layouts) (a₀ : Receiver) (kept₀ counts₀ : List ℕ) (pac
   reads : {octets text counts : List ℕ} {packets : ℕ} {a : Receiver} {kept w : List ℕ} {t : Lent} (piece : List ℕ)
       → Run l a₀ kept₀ counts₀ packets₀ t₀ octets text counts packets a kept w t
       → Run l a₀ kept₀ counts₀ packets₀ t₀ (octets ++ piece) text counts packets a kept (w ++ piece) t
-  takes : {octets text counts : List ℕ} {packets : ℕ} {a : Receiver} {kept w : List ℕ} {t : Lent} (r : Received) (kept′ : List ℕ) (t′ : Lent)
+  takes : {octets text counts : List ℕ} {packets : ℕ} {a : Receiver} {kept w : List ℕ} {t : Lent} (r : Received) (kept′ : List ℕ)
+      (t′ : Lent)
       → Receives a kept w t r kept′ t′ → Run l a₀ kept₀ counts₀ packets₀ t₀ octets text counts packets a kept w t
-      → Run l a₀ kept₀ counts₀ packets₀ t₀ octets (text ++ eventAdds l (r .event) t′ packets counts .text) (eventAdds l (r .event) t′ packets counts .counts)
+      → Run l a₀ kept₀ counts₀ packets₀ t₀ octets (text ++ eventAdds l (r .event) t′ packets counts .text)
+          (eventAdds l (r .event) t′ packets counts .counts)
       (numbered packets (eventHands (r .event))) (r .receiver) kept′ (drop (r .used) w) t′
 
 -- ---- a turn
 
 -- A call of the feed; what it tells is heeded, the text that this adds goes through the output, and before a read none is left unwritten.
-pub record Turned (l : Layouts) (b : Standing) (input kept : List ℕ) (t : Lent) (out counts : List ℕ) (r : Standing) (input′ kept′ : List ℕ) (t′ : Lent)
+pub record Turned (l : Layouts) (b : Standing) (input kept : List ℕ) (t : Lent) (out counts : List ℕ) (r : Standing)
+    (input′ kept′ : List ℕ) (t′ : Lent)
     (out′ counts′ : List ℕ) : Type 0 where
   pub pulled : Pulled
   pub pulls : Pulls (b .feed) input (b .receiver) kept t pulled input′ kept′ t′
   pub feed : r .feed ≡ pulled .feed
   pub receiver : r .receiver ≡ pulled .receiver
-  pub packets : r .state .packets ≡ numbered (b .state .packets) (pullHands (pulled .pull))
-  pub counting : counts′ ≡ pullAdds l (pulled .pull) t′ (b .state .packets) counts .counts
-  pub adds : Adds (pullAdds l (pulled .pull) t′ (b .state .packets) counts .text) out (b .state .output) out′ (r .state .output)
-  pub clear : length (handOf (r .feed) input′) < section → r .state .output .failed ≡ false → r .state .output .size ≡ 0
-  pub going : r .going ≡ goesOn (pulled .pull) (r .state .output .failed)
+  pub read : r .read ≡ pulled .read
+  pub bad : r .bad ≡ isBad (pulled .pull)
+  pub heard : State
+  pub heeds : Heeds l (pulled .pull) t′ out counts (b .state) out′ counts′ heard
+  pub long : length out′ ≡ length out
+  pub clears : Clears (length (handOf (r .feed) input′)) out′ heard (r .state)
+  pub going : r .going ≡ goesOn (pulled .pull) (failedIn (r .state .output))
+
+-- What it hands to the write: what is written while it is heeded, and before a read what is left.
+abbrev pub handedBy : {l : Layouts} {b : Standing} {input kept : List ℕ} {t : Lent} {out counts : List ℕ} {r : Standing}
+    {input′ kept′ : List ℕ} {t′ : Lent}
+    {out′ counts′ : List ℕ} → Turned l b input kept t out counts r input′ kept′ t′ out′ counts′ → List ℕ
+handedBy {r = r} {input′ = input′} {out′ = out′} m =
+    m .heeds .leaves .fills .adds .written ++ cleared (length (handOf (r .feed) input′)) out′ (m .heard)
 
 -- A run that went on: a piece was read, and a text added.
-pub record Went (l : Layouts) (a₀ : Receiver) (kept₀ counts₀ : List ℕ) (packets₀ : ℕ) (t₀ : Lent) (octets text counts : List ℕ) (packets : ℕ)
-    (a : Receiver) (kept w : List ℕ) (t : Lent) (out : List ℕ) (o : Output) (out′ : List ℕ) (o′ : Output) : Type 0 where
-  pub piece : List ℕ
-  pub said : List ℕ
+pub record Went (l : Layouts) (a₀ : Receiver) (kept₀ counts₀ : List ℕ) (packets₀ : ℕ) (t₀ : Lent) (octets text counts : List ℕ)
+    (packets : ℕ)
+    (a : Receiver) (kept w : List ℕ) (t : Lent) (out : List ℕ) (o : Output) (out′ : List ℕ) (o′ : Output)
+        (piece said handed : List ℕ) : Type 0 where
   pub run : Run l a₀ kept₀ counts₀ packets₀ t₀ (octets ++ piece) (text ++ said) counts packets a kept w t
   pub adds : Adds said out o out′ o′
+  pub hands : handed ≡ adds .written
 
--- Whatever was read and added before, a turn goes on with that run.
+-- Whatever was read and added before, a turn goes on with that run: by the piece that its read brought, the text of what was told, and what
+-- it hands to the write.
 abbrev pub TurnsGoOn : Type 0
 TurnsGoOn =
-    (l : Layouts) (b : Standing) (input kept : List ℕ) (t : Lent) (out counts : List ℕ) (r : Standing) (input′ kept′ : List ℕ) (t′ : Lent) (out′ counts′ : List ℕ)
-    → Turned l b input kept t out counts r input′ kept′ t′ out′ counts′
+    (l : Layouts) (b : Standing) (input kept : List ℕ) (t : Lent) (out counts : List ℕ) (r : Standing) (input′ kept′ : List ℕ)
+        (t′ : Lent) (out′ counts′ : List ℕ)
+    → (m : Turned l b input kept t out counts r input′ kept′ t′ out′ counts′)
     → (a₀ : Receiver) (kept₀ counts₀ : List ℕ) (packets₀ : ℕ) (t₀ : Lent) (octets text : List ℕ)
     → Run l a₀ kept₀ counts₀ packets₀ t₀ octets text counts (b .state .packets) (b .receiver) kept (handOf (b .feed) input) t
     → Went l a₀ kept₀ counts₀ packets₀ t₀ octets text counts′ (r .state .packets) (r .receiver) kept′ (handOf (r .feed) input′) t′
-    out (b .state .output) out′ (r .state .output)
+    out (b .state .output) out′ (r .state .output) (m .pulls .piece) (pullAdds l (m .pulled .pull) t′ (b .state .packets) counts .text)
+        (handedBy m)

@@ -2,7 +2,9 @@
 ghost use mathlib.Core.Path.{_≡_};
 ghost use Rattle.session.specs.Lent.{lent};
 ghost use Rattle.reports.specs.Readings.{layoutsOf};
-ghost use Rattle.report_turns.specs.Turns.{goesOn, Heeds, Clears, Turned};
+ghost use Rattle.value_lines.specs.Output.{failedIn};
+ghost use Rattle.report_turns.specs.Turns.{isBad, goesOn, Heeds, Clears, Turned};
+ghost use Rattle.report_turns.specs.Written.{begins, Looped, Reported, statusOf};
 use feed::Feed;
 use feed::Pull;
 use receiver::Receiver;
@@ -10,21 +12,111 @@ use reports::State;
 use session::Session;
 use session::StepAnswer;
 use stretch::KEPT;
+use window::Refilled;
 
 // With so many octets at hand the recording goes on without a read.
 const SECTION: usize = 1026;
 
-// Where a run stands: the feed, the receiver, what was handed out and is not yet written, and whether more may come.
-struct Standing {
+// The most turns.
+const TURNS: u64 = 18446744073709551615;
+
+// Where a run stands: the feed, the receiver, what was handed out and is not yet written, the last turn's read, whether the recording is
+// bad, which was told, and whether more may come.
+pub struct Standing {
     feed: Feed,
     receiver: Receiver,
     state: State,
+    read: Refilled,
+    bad: bool,
     going: bool,
 }
 
-// Takes the whole recording, and writes the text before a read that could wait. It ends with the input, a bad recording, or a read or a
-// write that failed; after 2^64 - 1 turns it would end too.
-pub fn turns(
+// Where a run stopped, and after how many turns.
+pub struct Stopped {
+    standing: Standing,
+    made: u64,
+}
+
+impl Stopped {
+    // Whether a write failed.
+    pub fn failed(self) -> bool
+        ensures { λ r. ⌜ r ≡ failedIn (self .standing .state .output) ⌝ }
+    {
+        let standing = self.standing;
+        let state = standing.state;
+        state.failed()
+    }
+
+    // The exit status: whether a read or a write failed, and then whether the recording is bad.
+    pub fn status(self) -> i32
+        ensures { λ r. ⌜ r ≡ statusOf (self .standing) ⌝ }
+    {
+        let standing = self.standing;
+        let read = standing.read;
+        let unfinished = read.failed() | standing.going;
+        if self.failed() | unfinished {
+            return window::BROKEN;
+        }
+        if standing.bad {
+            return window::AGAINST;
+        }
+        window::DONE
+    }
+}
+
+// Writes the readings of all that comes by a descriptor to a receiver of which nothing is read yet: the header, what each turn adds, and
+// what is left behind the last turn.
+pub fn report(
+    name: &[u8],
+    descriptor: i32,
+    input: &mut [u8],
+    text: &[u8],
+    apids: &[u16],
+    sids: &[u8],
+    starts: &[usize],
+    n: usize,
+    codes: &[u16],
+    froms: &[usize],
+    tos: &[usize],
+    out: &mut [u8],
+    counts: &mut [u64],
+    fresh: Receiver,
+) -> Stopped
+    ensures { λ r. ⌜ Reported (layoutsOf (now (text .entry)) (now (apids .entry)) (now (sids .entry)) (now (starts .entry)) n
+        (now (codes .entry)) (now (froms .entry)) (now (tos .entry)))
+        fresh (now (input .entry)) (now (out .entry)) (now (counts .entry)) r (now (input .exit)) (now (out .exit)) (now (counts .exit)) ⌝ }
+{
+    let begun = State::begun(out);
+    let first = begun.written(name, out);
+    let stopped = turns(
+        name,
+        descriptor,
+        input,
+        text,
+        apids,
+        sids,
+        starts,
+        n,
+        codes,
+        froms,
+        tos,
+        out,
+        counts,
+        first,
+        fresh,
+    );
+    let mut standing = stopped.standing;
+    let last = standing.state;
+    let state = last.written(name, out);
+    standing.state = state;
+    Stopped {
+        standing,
+        made: stopped.made,
+    }
+}
+
+// The turns. They end with the input, a bad recording, or a read or a write that failed; after 2^64 - 1 turns they would end too.
+fn turns(
     name: &[u8],
     descriptor: i32,
     input: &mut [u8],
@@ -40,21 +132,23 @@ pub fn turns(
     counts: &mut [u64],
     first: State,
     fresh: Receiver,
-) -> State {
+) -> Stopped
+    ensures { λ r. ⌜ Looped (layoutsOf (now (text .entry)) (now (apids .entry)) (now (sids .entry)) (now (starts .entry)) n
+        (now (codes .entry)) (now (froms .entry)) (now (tos .entry)))
+        fresh first (now (input .entry)) (now (out .entry)) (now (counts .entry)) (r .standing) (r .made)
+        (now (input .exit)) (now (out .exit)) (now (counts .exit)) ⌝ }
+{
     let mut kept = [0u8; KEPT];
     let mut octets = [0u8; Session::OCTETS];
     let mut lengths = [0u16; Session::LENGTHS];
     let mut firsts = [0u32; Session::FIRSTS];
-    let feed = Feed::fresh();
-    let mut turned = Standing {
-        feed,
-        receiver: fresh,
-        state: first,
-        going: true,
-    };
-    let mut left: u64 = 18446744073709551615;
-    while left > 0 {
-        turned = turn(
+    let mut standing = begins(fresh, first);
+    let mut made: u64 = 0;
+    while standing.going {
+        if made == TURNS {
+            return Stopped { standing, made };
+        }
+        standing = turn(
             name,
             descriptor,
             input,
@@ -72,14 +166,28 @@ pub fn turns(
             tos,
             out,
             counts,
-            turned,
+            standing,
         );
-        if !turned.going {
-            return turned.state;
-        }
-        left -= 1;
+        made += 1;
     }
-    turned.state
+    Stopped { standing, made }
+}
+
+// Nothing is read yet; after a write that failed no turn is made.
+fn begins(fresh: Receiver, first: State) -> Standing
+    ensures { λ r. ⌜ r ≡ begins fresh first ⌝ }
+{
+    let feed = Feed::fresh();
+    let read = Refilled::none();
+    let going = !first.failed();
+    Standing {
+        feed,
+        receiver: fresh,
+        state: first,
+        read,
+        bad: false,
+        going,
+    }
 }
 
 // One turn: what is told of the recording's next section is heeded, and the text is written before a read that could wait.
@@ -124,6 +232,7 @@ fn turn(
     );
     let next = pulled.feed;
     let received = pulled.receiver;
+    let read = pulled.read;
     let pull = pulled.pull;
     let heard = heed(
         name,
@@ -146,10 +255,13 @@ fn turn(
     let hand = window::hand(input, next.at, next.end);
     let after = before_a_read(name, out, hand.len(), heard);
     let going = may_go_on(pull, after);
+    let bad = is_bad(pull);
     Standing {
         feed: next,
         receiver: received,
         state: after,
+        read,
+        bad,
         going,
     }
 }
@@ -164,9 +276,19 @@ fn before_a_read(name: &[u8], out: &[u8], hand: usize, state: State) -> State
     state.written(name, out)
 }
 
+// Whether the recording is bad.
+fn is_bad(pull: Pull) -> bool
+    ensures { λ r. ⌜ r ≡ isBad pull ⌝ }
+{
+    match pull {
+        Pull::Bad | Pull::Cut => true,
+        _ => false,
+    }
+}
+
 // Whether more may come, and no write failed.
 fn may_go_on(pull: Pull, state: State) -> bool
-    ensures { λ r. ⌜ r ≡ goesOn pull (state .output .failed) ⌝ }
+    ensures { λ r. ⌜ r ≡ goesOn pull (failedIn (state .output)) ⌝ }
 {
     if state.failed() {
         return false;

@@ -3,23 +3,25 @@
 ghost use mathlib.Core.Path.{_≡_};
 ghost use lib.ListN.{set};
 use layouts::LayoutsRead;
+use loading::Loaded;
 use receiver::Receiver;
-use reports::State;
 
 mod loading;
 
 // Writes the readings of what comes by a descriptor to a receiver of which nothing is read yet, by the layouts in the file at path, to
-// standard output. What fails, and then what was refused, is told on standard error, behind the program's name.
-pub fn run(name: &[u8], path: &[u8], descriptor: i32, fresh: Receiver) {
+// standard output, and answers the exit status. What fails, and then what was refused, is told on standard error, behind the program's
+// name.
+pub fn run(name: &[u8], path: &[u8], descriptor: i32, fresh: Receiver) -> i32 {
     let mut text = io::large_buffer();
-    let size = loading::load(name, path, &mut text);
-    if size != loading::NONE {
-        given(name, path, octets::part(&text, 0, size), descriptor, fresh);
+    match loading::load(name, path, &mut text) {
+        Loaded::Wrong => window::AGAINST,
+        Loaded::Failed => window::BROKEN,
+        Loaded::Text(size) => given(name, path, octets::part(&text, 0, size), descriptor, fresh),
     }
 }
 
 // The same with the file's text.
-fn given(name: &[u8], path: &[u8], text: &[u8], descriptor: i32, fresh: Receiver) {
+fn given(name: &[u8], path: &[u8], text: &[u8], descriptor: i32, fresh: Receiver) -> i32 {
     let mut apids = [0u16; layouts::LAYOUTS];
     let mut sids = [0u8; layouts::LAYOUTS];
     let mut starts = [0usize; layouts::LAYOUTS + 1];
@@ -35,10 +37,14 @@ fn given(name: &[u8], path: &[u8], text: &[u8], descriptor: i32, fresh: Receiver
         &mut froms,
         &mut tos,
     ) {
-        LayoutsRead::Wrong(line, fault) => loading::wrong(name, path, line, fault),
+        LayoutsRead::Wrong(line, fault) => {
+            loading::wrong(name, path, line, fault);
+            window::AGAINST
+        }
         LayoutsRead::Layouts(n, entries) => {
             if n == 0 {
-                return loading::about(name, path, b" has no layout\n");
+                loading::about(name, path, b" has no layout\n");
+                return window::AGAINST;
             }
             end_last(&mut starts, n, entries);
             recording(
@@ -53,7 +59,7 @@ fn given(name: &[u8], path: &[u8], text: &[u8], descriptor: i32, fresh: Receiver
                 &froms,
                 &tos,
                 fresh,
-            );
+            )
         }
     }
 }
@@ -67,7 +73,7 @@ fn end_last(starts: &mut [usize], n: usize, entries: usize)
     }
 }
 
-// Takes the recording, writes its readings, and tells what was refused.
+// Takes the recording, writes its readings, and tells what was refused, unless a write failed. It answers the exit status.
 fn recording(
     name: &[u8],
     descriptor: i32,
@@ -80,15 +86,11 @@ fn recording(
     froms: &[usize],
     tos: &[usize],
     fresh: Receiver,
-) {
+) -> i32 {
     let mut counts = [0u64; reports::COUNTS];
     let mut out = io::large_buffer();
     let mut input = io::large_buffer();
-    let first = State::begun(&mut out).written(name, &out);
-    if first.failed() {
-        return;
-    }
-    let last = report_turns::turns(
+    let stopped = report_turns::report(
         name,
         descriptor,
         &mut input,
@@ -102,13 +104,10 @@ fn recording(
         tos,
         &mut out,
         &mut counts,
-        first,
         fresh,
     );
-    if last.failed() {
-        return;
-    }
-    if !last.written(name, &out).failed() {
+    if !stopped.failed() {
         reports::told(name, &counts);
     }
+    stopped.status()
 }

@@ -3,20 +3,29 @@ ghost use Rattle.reporter.specs.Text.{Ends};
 use layouts::Fault;
 use libc::STDERR_FILENO;
 
-// No number of octets.
-pub(crate) const NONE: usize = 18446744073709551615;
+// What loading the file came to.
+pub(crate) enum Loaded {
+    // So many octets at the start of the buffer are its text.
+    Text(usize),
+    // It fills the buffer, which was told.
+    Wrong,
+    // It could not be opened or read, or it changed while it was read, which was told.
+    Failed,
+}
 
-// Puts the file at path to the start of text, and a newline behind it where the last line has none, and answers how many octets there are;
-// NONE if it cannot be read or fills text, which is told.
-pub(crate) fn load(name: &[u8], path: &[u8], text: &mut [u8]) -> usize {
+// Puts the file at path to the start of text, and a newline behind it where the last line has none.
+pub(crate) fn load(name: &[u8], path: &[u8], text: &mut [u8]) -> Loaded {
     let file = os::open_read(path);
     if file < 0 {
         telling::fail(name, path);
-        return NONE;
+        return Loaded::Failed;
     }
-    let size = fill(name, path, file, text);
+    let filled = fill(name, path, file, text);
     libc::close(file);
-    line_ended(text, size)
+    match filled {
+        Loaded::Text(size) => Loaded::Text(line_ended(text, size)),
+        _ => filled,
+    }
 }
 
 // Ends the last line of the n octets at the start of text, where there is room for that.
@@ -36,24 +45,24 @@ fn line_ended(text: &mut [u8], n: usize) -> usize
     n + 1
 }
 
-// The same with the file open.
-fn fill(name: &[u8], path: &[u8], file: i32, text: &mut [u8]) -> usize {
+// Puts the file's octets to the start of text.
+fn fill(name: &[u8], path: &[u8], file: i32, text: &mut [u8]) -> Loaded {
     let n = io::read_full(file, text);
     if n == text.len() {
         about(name, path, b" has more than 65,535 octets\n");
-        return NONE;
+        return Loaded::Wrong;
     }
     let mut more = [0u8; 1];
     let got = libc::read(file, &mut more);
     if got < 0 {
         telling::fail(name, path);
-        return NONE;
+        return Loaded::Failed;
     }
     if got > 0 {
         about(name, path, b" changed while it was read\n");
-        return NONE;
+        return Loaded::Failed;
     }
-    n
+    Loaded::Text(n)
 }
 
 // Says a line about the file.

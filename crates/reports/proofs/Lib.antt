@@ -1,3 +1,4 @@
 pub mod Framing
 pub mod Reporting
 pub mod Unique
+pub mod Own

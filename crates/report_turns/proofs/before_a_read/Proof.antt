@@ -8,7 +8,7 @@ returns : tie.Need-returns
 returns c = enough-at-hand (c .if1 .taken)
 
 returns-2 : tie.Need-returns-2
-returns-2 c = text-written (c .written .ensures)
+returns-2 c = text-written (c .before .if1 .left) (c .written .ensures)
 
 pub before-a-read-spec : {M : Type 1} → statement M
 before-a-read-spec = tie.close
