@@ -36,19 +36,16 @@ use Rattle.receiver.specs.declared.Received.{Received}
 use Rattle.receiver.specs.declared.Event.{Event}
 use Rattle.receiver.specs.declared.Event.the-variants as event
 use Rattle.training.specs.Look.{handed, looked}
-use Rattle.training.specs.Form.{known, grown}
-use Rattle.training.specs.Calls.{Read}
-use Rattle.training.specs.Calls.{Tells as Verdicts, says, goes, waits, ends}
 use Rattle.training.specs.declared.Verdict.{Verdict}
 use Rattle.training.specs.declared.Check.{Check}
-use Rattle.training.specs.declared.Form.{Form}
 use Rattle.training.specs.declared.Looked.{Looked}
-use Rattle.audit_rows.specs.Goes.{Comes, stood, ended, Goes, Ends}
-use Rattle.audit_rows.proofs.Reading.{goes-none}
-use Rattle.audit_rows.specs.Goes.{told as calls}
+use Rattle.audit_rows.specs.Goes.{fresh, idle, Goes, Ends}
+use Rattle.audit_rows.proofs.Alike.{Alike, going-alike}
 use Rattle.audit_rows.specs.Frame.{handedFrom, handedIn, handedBy}
 use Rattle.audit_rows.specs.declared.Audit.{Audit}
-use Rattle.window.specs.Window.{hand}
+use Rattle.window.specs.Window.{unread as noRead}
+use Rattle.window.specs.declared.Refilled.{Refilled}
+use Rattle.feed.specs.Pull.{fresh as freshFeed}
 use Rattle.feed.specs.Pull.{atEnd, pulled, Pulls}
 use Rattle.feed.specs.Pull.{handOf as handOfFeed}
 use Rattle.feed.specs.declared.Feed.{Feed}
@@ -57,79 +54,9 @@ use Rattle.feed.specs.declared.Pull.the-variants as pull
 use Rattle.feed.specs.declared.Pulled.{Pulled}
 use Rattle.feed.proofs.Pull.{the-type}
 use Rattle.source.specs.declared.Source.{Source}
-use Rattle.audits.specs.Turns.{FirstRead, Grows, On, By, told, Heeds, heeded, Turned}
-use Rattle.audits.specs.declared.Piece.{Piece}
-use Rattle.audits.specs.declared.State.{State}
-use Rattle.audits.specs.declared.Heeded.{Heeded}
-
--- ---- the first reading
-
-reads-more : (f : Form) (ps : List (List ℕ)) (ns : List Form) (g n : Form) (p : List ℕ) → Read f ps ns g → n ≡ grown g p → Read f (ps ++ p ∷ []) (ns ++ n ∷ []) n
-reads-more f [] [] g n p r e = (e ∙ ap (λ (x : Form). grown x p) r, refl)
-reads-more f (q ∷ ps) (m ∷ ns) g n p r e = (r .0, reads-more m ps ns g n p (r .1) e)
-reads-more f [] (m ∷ ns) g n p r e = absurd r
-reads-more f (q ∷ ps) [] g n p r e = absurd r
-
-pub none-read : {f : Form} → f ≡ known [] → FirstRead f
-none-read e = record { pieces = []; forms = []; read = e }
-
-pub one-read : {f n : Form} (p : List ℕ) → FirstRead f → n ≡ grown f p → FirstRead n
-one-read {f} {n} p r e = record {
-  pieces = r .pieces ++ p ∷ [];
-  forms = r .forms ++ n ∷ [];
-  read = reads-more (known []) (r .pieces) (r .forms) f n p (r .read) e;
-}
-
-pub piece-read : {f : Form} {r : Piece} {buffer : List ℕ} → FirstRead f → Grows f r buffer → FirstRead (r .form)
-piece-read {r = r} {buffer} g e = one-read (take (r .came) buffer) g (e .grows)
-
--- the octets that came
-pub grew : (f : Form) (buffer : List ℕ) {came : ℕ} {w : List ℕ} {n : Form} (failed : Bool) → came ≤ length buffer → w ≡ part buffer 0 came → n ≡ grown f w
-    → Grows f (record { form = n; came = came; failed = failed }) buffer
-grew f buffer {came} failed inside e g = record { inside = inside; grows = g ∙ ap (grown f) (e ∙ sym (part-some buffer 0 came (omega (arith, inside)))) }
-
--- ---- packets alike but for their first numbers
-
-abbrev Alike : List Handed → List Handed → Type 0
-Alike [] [] = Unit {0}
-Alike (p ∷ ps) (q ∷ qs) = ((p .packet ≡ q .packet) × (p .arrival ≡ q .arrival)) × Alike ps qs
-Alike [] (q ∷ qs) = ⊥
-Alike (p ∷ ps) [] = ⊥
-
-alike-self : (ps : List Handed) → Alike ps ps
-alike-self [] = tt
-alike-self (p ∷ ps) = ((refl, refl), alike-self ps)
-
-alike-then : (ps qs hs : List Handed) → Alike ps qs → Alike (ps ++ hs) (qs ++ hs)
-alike-then [] [] hs a = alike-self hs
-alike-then (p ∷ ps) (q ∷ qs) hs a = (a .0, alike-then ps qs hs (a .1))
-alike-then [] (q ∷ qs) hs a = absurd a
-alike-then (p ∷ ps) [] hs a = absurd a
-
-same-look : (c : Check) (w : List ℕ) (p q : Handed) → (p .packet ≡ q .packet) × (p .arrival ≡ q .arrival) → {l : Looked}
-    → l ≡ looked c w (handed (p .packet) (p .arrival)) → l ≡ looked c w (handed (q .packet) (q .arrival))
-same-look c w p q a e = e ∙ ap (λ (x : List ℕ). looked c w (handed x (p .arrival))) (a .0) ∙ ap (λ (n : ℕ). looked c w (handed (q .packet) n)) (a .1)
-
-tells-alike : {c : Check} {rest : List ℕ} {ps : List Handed} {v : Verdict} → Verdicts c rest ps v → (qs : List Handed) → Alike ps qs → Verdicts c rest qs v
-tells-alike (says {c} {h = h} w l e d) (q ∷ qs) a = says w l (same-look c (w .octets) h q (a .0) e) d
-tells-alike (goes {c} {h = h} w l e d t) (q ∷ qs) a = goes w l (same-look c (w .octets) h q (a .0) e) d (tells-alike t qs (a .1))
-tells-alike (waits {c} {h = h} w l e d t) (q ∷ qs) a = waits w l (same-look c (w .octets) h q (a .0) e) d (tells-alike t (q ∷ qs) a)
-tells-alike (ends w z e) [] a = ends w z e
-tells-alike (says w l e d) [] a = absurd a
-tells-alike (goes w l e d t) [] a = absurd a
-tells-alike (waits w l e d t) [] a = absurd a
-tells-alike (ends w z e) (q ∷ qs) a = absurd a
-
-comes-alike : {a : Audit} {rows more rest : List ℕ} {ps : List Handed} {v : Verdict} (qs : List Handed) → Alike ps qs → Comes a rows more rest ps v → Comes a rows more rest qs v
-comes-alike qs a (stood o f n e) = stood o f n e
-comes-alike qs a (calls o t) = calls o (tells-alike t qs a)
-comes-alike qs a (ended o s e) = ended o s e
-
-pub goes-alike : {a b : Audit} {rows rows′ : List ℕ} (ps qs : List Handed) → Alike ps qs → Goes a rows ps b rows′ → Goes a rows qs b rows′
-goes-alike ps qs l g = record {
-  piece = g .piece;
-  goes = λ more rest hs v k. comes-alike (qs ++ hs) (alike-then ps qs hs l) (g .goes more rest hs v k);
-}
+use Rattle.audit_turns.specs.Turns.{begun, On, By, told, Heeds, heeded, Turned}
+use Rattle.audit_turns.specs.declared.State.{State}
+use Rattle.audit_turns.specs.declared.Heeded.{Heeded}
 
 -- ---- what was handed out stands in what was lent
 
@@ -224,14 +151,14 @@ none-alike : (qs : List Handed) → Alike [] qs → qs ≡ []
 none-alike [] a = refl
 none-alike (q ∷ qs) a = absurd a
 
-by-alike : (a : Audit) (rows : List ℕ) (r : Heeded) (rows′ : List ℕ) (ps qs : List Handed) → Alike ps qs → (p : Pull) → By a rows ps r rows′ p → By a rows qs r rows′ p
-by-alike a rows r rows′ ps qs l pull.More o = record { going = o .going; goes = goes-alike ps qs l (o .goes) }
-by-alike a rows r rows′ ps qs l pull.Opened o = record { going = o .going; goes = goes-alike ps qs l (o .goes) }
-by-alike a rows r rows′ ps qs l (pull.Answered x) o = record { going = o .going; goes = goes-alike ps qs l (o .goes) }
-by-alike a rows r rows′ ps qs l pull.Bad o = o
-by-alike a rows r rows′ ps qs l pull.Cut o = o
-by-alike a rows r rows′ ps qs l pull.Failed o = o
-by-alike a rows r rows′ ps qs l pull.End o =
+by-alike : (a : Audit) (rows m : List ℕ) (r : Heeded) (rows′ : List ℕ) (ps qs : List Handed) → Alike ps qs → (p : Pull) → By a rows ps m r rows′ p → By a rows qs m r rows′ p
+by-alike a rows m r rows′ ps qs l pull.More o = record { going = o .going; ended = o .ended; goes = going-alike (o .goes) qs l }
+by-alike a rows m r rows′ ps qs l pull.Opened o = record { going = o .going; ended = o .ended; goes = going-alike (o .goes) qs l }
+by-alike a rows m r rows′ ps qs l (pull.Answered x) o = record { going = o .going; ended = o .ended; goes = going-alike (o .goes) qs l }
+by-alike a rows m r rows′ ps qs l pull.Bad o = o
+by-alike a rows m r rows′ ps qs l pull.Cut o = o
+by-alike a rows m r rows′ ps qs l pull.Failed o = o
+by-alike a rows m r rows′ ps qs l pull.End o =
     record { none = none-alike qs (subst (λ (x : List Handed). Alike x qs) (o .none) l); going = o .going; ended = o .ended; ends = o .ends }
 
 received-alike : (f : Feed) (input : List ℕ) (a : Receiver) (kept : List ℕ) (l : Lent) {r : Pulled} {input′ kept′ : List ℕ} {l′ : Lent}
@@ -240,21 +167,31 @@ unfolding received
 received-alike f input a kept l {r} {l′ = l′} g =
     let w : List ℕ = handOfFeed f input in
     let h : Heard = heard (a .session) (keptBy (a .source) kept w) w l (scanned (a .source) kept w .taken) in
-    let x = by-event h l (heard-fair (a .session) (keptBy (a .source) kept w) w l (scanned (a .source) kept w .taken)) (a .source) (g .failed) (length (g .piece)) (g .received .event) (g .calls .tells) in
+    let x = by-event h l (heard-fair (a .session) (keptBy (a .source) kept w) w l (scanned (a .source) kept w .taken)) (a .source) (r .read .failed) (r .read .came) (g .received .event) (g .calls .tells) in
     subst (λ (y : Lent). Alike (told (r .pull) (y .octets) (y .lengths)) (h .packets)) (sym (g .calls .leaves))
     (subst (λ (p : Pull). Alike (told p (laid (h .packets) l .octets) (laid (h .packets) l .lengths)) (h .packets)) (sym (g .tells)) x)
 
 pub turned : (s : State) (input kept : List ℕ) (l : Lent) (rows : List ℕ) {p : Pulled} {input′ kept′ : List ℕ} {l′ : Lent} {rows′ : List ℕ} (r : Heeded)
     → Pulls (s .feed) input (s .receiver) kept l p input′ kept′ l′ → Heeds (s .audit) rows (l′ .octets) (l′ .lengths) r rows′ (p .pull)
-    → Turned s input kept l rows (record { feed = p .feed; receiver = p .receiver; audit = r .audit; going = r .going; ended = r .ended }) input′ kept′ l′ rows′
+    → Turned s input kept l rows (record { feed = p .feed; receiver = p .receiver; audit = r .audit; read = p .read; going = r .going; ended = r .ended }) input′ kept′ l′ rows′
 turned s input kept l rows {p} {l′ = l′} {rows′} r g h = record {
   pulled = p;
   pulls = g;
   feed = refl;
   receiver = refl;
-  heeds = by-alike (s .audit) rows r rows′ (told (p .pull) (l′ .octets) (l′ .lengths)) (received (s .receiver) kept (handOfFeed (s .feed) input) l .packets)
-      (received-alike (s .feed) input (s .receiver) kept l g) (p .pull) h;
+  read = refl;
+  more = h .more;
+  heeds = by-alike (s .audit) rows (h .more) r rows′ (told (p .pull) (l′ .octets) (l′ .lengths)) (received (s .receiver) kept (handOfFeed (s .feed) input) l .packets)
+      (received-alike (s .feed) input (s .receiver) kept l g) (p .pull) (h .heeds);
 }
+
+-- before the first turn
+pub at-start : (a : Receiver) (c : Check) {f : Feed} {b : Audit} {r : Refilled} → f ≡ freshFeed → b ≡ fresh c → r ≡ noRead
+    → _≡_ {A = State} (record { feed = f; receiver = a; audit = b; read = r; going = true; ended = false }) (begun a c)
+at-start a c {f} {b} {r} e k d =
+    ap (λ (x : Feed). record { feed = x; receiver = a; audit = b; read = r; going = true; ended = false }) e
+    ∙ ap (λ (x : Audit). record { feed = freshFeed; receiver = a; audit = x; read = r; going = true; ended = false }) k
+    ∙ ap (λ (x : Refilled). record { feed = freshFeed; receiver = a; audit = fresh c; read = x; going = true; ended = false }) d
 
 -- ---- by what was told of the input
 
@@ -262,12 +199,12 @@ module _ (a : Audit) (rows octets lengths : List ℕ) where
   abbrev left : Audit → Bool → Bool → Heeded
   left b going last = record { audit = b; going = going; ended = last }
 
-  goes-on : On a rows [] (left a true false) rows
-  goes-on = record { going = refl; goes = goes-none a rows }
+  goes-on : On a rows [] [] (left a true false) rows
+  goes-on = record { going = refl; ended = refl; goes = idle }
 
   pub heeds-none : (p : Pull) → OneOf (0 ∷ 1 ∷ []) (tagOf the-type p) → Heeds a rows octets lengths (left a true false) rows p
-  heeds-none pull.More k = goes-on
-  heeds-none pull.Opened k = goes-on
+  heeds-none pull.More k = record { more = []; heeds = goes-on }
+  heeds-none pull.Opened k = record { more = []; heeds = goes-on }
   heeds-none (pull.Answered x) k = absurd (miss (0 ∷ 1 ∷ []) 2 tt k)
   heeds-none pull.Bad k = absurd (miss (0 ∷ 1 ∷ []) 3 tt k)
   heeds-none pull.End k = absurd (miss (0 ∷ 1 ∷ []) 4 tt k)
@@ -278,14 +215,18 @@ module _ (a : Audit) (rows octets lengths : List ℕ) where
   heeds-bad pull.More k = absurd (miss (3 ∷ 5 ∷ 6 ∷ []) 0 tt k)
   heeds-bad pull.Opened k = absurd (miss (3 ∷ 5 ∷ 6 ∷ []) 1 tt k)
   heeds-bad (pull.Answered x) k = absurd (miss (3 ∷ 5 ∷ 6 ∷ []) 2 tt k)
-  heeds-bad pull.Bad k = record { going = refl; ended = refl }
+  heeds-bad pull.Bad k = record { more = []; heeds = record { stays = refl; buffer = refl; going = refl; ended = refl; none = refl } }
   heeds-bad pull.End k = absurd (miss (3 ∷ 5 ∷ 6 ∷ []) 4 tt k)
-  heeds-bad pull.Cut k = record { going = refl; ended = refl }
-  heeds-bad pull.Failed k = record { going = refl; ended = refl }
+  heeds-bad pull.Cut k = record { more = []; heeds = record { stays = refl; buffer = refl; going = refl; ended = refl; none = refl } }
+  heeds-bad pull.Failed k = record { more = []; heeds = record { stays = refl; buffer = refl; going = refl; ended = refl; none = refl } }
 
   pub heeds-frame : {p : Pull} {x : StepAnswer} {b : Audit} {rows′ : List ℕ} → p ≡ pull.Answered x → Goes a rows (handedBy x octets lengths) b rows′
       → Heeds a rows octets lengths (left b true false) rows′ p
-  heeds-frame {b = b} {rows′} e g = subst (λ (q : Pull). Heeds a rows octets lengths (left b true false) rows′ q) (sym e) (record { going = refl; goes = g })
+  heeds-frame {b = b} {rows′} e g =
+      subst (λ (q : Pull). Heeds a rows octets lengths (left b true false) rows′ q) (sym e)
+      (record { more = g .piece; heeds = record { going = refl; ended = refl; goes = g .going } })
 
   pub heeds-end : {p : Pull} {b : Audit} {rows′ : List ℕ} → p ≡ pull.End → Ends a rows b rows′ → Heeds a rows octets lengths (left b false true) rows′ p
-  heeds-end {b = b} {rows′} e g = subst (λ (q : Pull). Heeds a rows octets lengths (left b false true) rows′ q) (sym e) (record { none = refl; going = refl; ended = refl; ends = g })
+  heeds-end {b = b} {rows′} e g =
+      subst (λ (q : Pull). Heeds a rows octets lengths (left b false true) rows′ q) (sym e)
+      (record { more = g .piece; heeds = record { none = refl; going = refl; ended = refl; ends = g .ending } })

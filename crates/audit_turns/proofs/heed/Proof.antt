@@ -1,9 +1,9 @@
--- `audits::heed` meets its contract.
+-- `audit_turns::heed` meets its contract.
 use denote.Ref.{now}
 use borrow.Author.Needs.{needs}
-use Rattle.audits.proofs.Turning.{heeds-none, heeds-bad, heeds-frame, heeds-end}
-use Rattle.audits.proofs.heed.Statement.{statement}
-use Rattle.audits.proofs.heed.Tie as tie
+use Rattle.audit_turns.proofs.Turning.{heeds-none, heeds-bad, heeds-frame, heeds-end}
+use Rattle.audit_turns.proofs.heed.Statement.{statement}
+use Rattle.audit_turns.proofs.heed.Tie as tie
 
 returns : tie.Need-returns
 returns c =
