@@ -43,6 +43,10 @@ pub fn run(name: &[u8], path: &[u8], source: i32, receiver: Receiver) -> i32 {
 
 // Both readings of the table. One that is badly formed is told before anything of the input is read.
 fn readings(name: &[u8], path: &[u8], table: i32, source: i32, receiver: Receiver) -> i32 {
+    if !readable(table) {
+        complain(name, path);
+        return window::BROKEN;
+    }
     let mut buffer = io::large_buffer();
     let mut line = [0u8; audit_line::VERDICT];
     let formed = audit_form::form(name, table, &mut buffer);
@@ -75,6 +79,13 @@ fn complain(name: &[u8], path: &[u8]) {
     io::write_all(STDERR_FILENO, name);
     io::write_all(STDERR_FILENO, b": ");
     os::fail(path);
+}
+
+// Whether the table's first octet can be read, by its place and without going on from there: not of a folder or a pipe.
+fn readable(table: i32) -> bool {
+    let mut one = [0u8; 1];
+    let got = libc::pread(table, &mut one, 0);
+    0 <= got
 }
 
 // Goes to an index of the table, where its rows begin; whether the system did.
