@@ -1,5 +1,6 @@
 pub mod Looks
 pub mod Reading
 pub mod Frames
+pub mod Alike
 pub mod Right
 pub mod Unique

@@ -10,7 +10,7 @@ use lib.Seq.{drop-append-le}
 use Rattle.octets.specs.Pick.{pick}
 use Rattle.octets.proofs.Choices.{picks}
 use Rattle.rules.specs.Channel.{Handed}
-use Rattle.training.specs.Table.{Row, rowsIn}
+use Rattle.training.specs.Table.{Row, rowOctets, rowsIn}
 use Rattle.training.specs.Look.{behindRow, handed, illFormed, along, looked, ended}
 use Rattle.training.specs.Calls.{Window, Tells, says, goes, waits}
 use Rattle.training.specs.declared.Verdict.{Verdict}
@@ -20,7 +20,10 @@ use Rattle.training.specs.declared.Wanted.the-variants as wanted
 use Rattle.training.proofs.Looking.{looks-not, ends-short}
 use Rattle.training.proofs.Telling.{formed-looks}
 use Rattle.training.proofs.Verdicts.{each-looks-on}
-use Rattle.audit_rows.specs.Goes.{Short}
+
+-- Fewer octets than the rows have that are still to be looked at.
+abbrev pub Short : Check → List ℕ → Type 0
+Short c octets = length octets < rowOctets * (c .rows - c .row)
 
 not-rows : {v : Verdict} → wanted.Nothing v ≡ wanted.Rows → ⊥
 not-rows e = let z : _≡_ {A = ℕ} 0 1 = cc in omega arith
@@ -60,12 +63,12 @@ rows-formed : (c : Check) (w : List ℕ) (h : Handed) (b : Bool) → c .formed �
 rows-formed c w h true e d = ap not e
 rows-formed c w h false e d = absurd (not-rows (ap (λ (l : Looked). l .wanted) (looks-not c w h (ap not e)) ∙ d))
 
-module _ (c : Check) (w packet : List ℕ) (arrival : ℕ) {l : Looked} (e : l ≡ looked c w (handed packet arrival)) where
+module _ (c : Check) (w : List ℕ) (h : Handed) {l : Looked} (e : l ≡ looked c w (handed (h .packet) (h .arrival))) where
   pub used-inside : l .used ≤ length w
-  used-inside = subst (λ (x : Looked). x .used ≤ length w) (sym e) (each-looks-on c w (handed packet arrival) .inside)
+  used-inside = subst (λ (x : Looked). x .used ≤ length w) (sym e) (each-looks-on c w (handed (h .packet) (h .arrival)) .inside)
 
   by : Passes c 0 l
-  by = subst (Passes c 0) (sym e) (look-passes c w (handed packet arrival) (c .formed) refl)
+  by = subst (Passes c 0) (sym e) (look-passes c w (handed (h .packet) (h .arrival)) (c .formed) refl)
 
   abbrev all : (x : List ℕ) → Window (w ++ x)
   all x = record { octets = w; behind = x; cut = refl }
@@ -73,17 +76,17 @@ module _ (c : Check) (w packet : List ℕ) (arrival : ℕ) {l : Looked} (e : l �
   behind : (x : List ℕ) → drop (l .used) (w ++ x) ≡ drop (l .used) w ++ x
   behind x = drop-append-le (l .used) w x used-inside
 
-  pub look-says : {v : Verdict} (x : List ℕ) (hs : List Handed) → l .wanted ≡ wanted.Nothing v → Tells c (w ++ x) (handed packet arrival ∷ hs) v
+  pub look-says : {v : Verdict} (x : List ℕ) (hs : List Handed) → l .wanted ≡ wanted.Nothing v → Tells c (w ++ x) (h ∷ hs) v
   look-says x hs d = says (all x) l e d
 
   pub look-goes : {v : Verdict} (x : List ℕ) (hs : List Handed) → l .wanted ≡ wanted.Packet
-      → Tells (l .check) (drop (l .used) w ++ x) hs v → Tells c (w ++ x) (handed packet arrival ∷ hs) v
+      → Tells (l .check) (drop (l .used) w ++ x) hs v → Tells c (w ++ x) (h ∷ hs) v
   look-goes {v} x hs d t = goes (all x) l e d (subst (λ (o : List ℕ). Tells (l .check) o hs v) (sym (behind x)) t)
 
   pub look-waits : {v : Verdict} (x : List ℕ) (hs : List Handed) → l .wanted ≡ wanted.Rows
-      → Tells (l .check) (drop (l .used) w ++ x) (handed packet arrival ∷ hs) v → Tells c (w ++ x) (handed packet arrival ∷ hs) v
+      → Tells (l .check) (drop (l .used) w ++ x) (h ∷ hs) v → Tells c (w ++ x) (h ∷ hs) v
   look-waits {v} x hs d t =
-      waits (all x) l e d (subst (λ (o : List ℕ). Tells (l .check) o (handed packet arrival ∷ hs) v) (sym (behind x)) t)
+      waits (all x) l e d (subst (λ (o : List ℕ). Tells (l .check) o (h ∷ hs) v) (sym (behind x)) t)
 
   pub look-short : (x : List ℕ) → Short (l .check) (drop (l .used) w ++ x) → Short c (w ++ x)
   look-short x s =
@@ -91,7 +94,7 @@ module _ (c : Check) (w packet : List ℕ) (arrival : ℕ) {l : Looked} (e : l �
 
   module _ (d : l .wanted ≡ wanted.Rows) where
     starved : length w < l .used + 17
-    starved = subst (λ (x : Looked). x .wanted ≡ wanted.Rows → length w < x .used + 17) (sym e) (each-looks-on c w (handed packet arrival) .starved) d
+    starved = subst (λ (x : Looked). x .wanted ≡ wanted.Rows → length w < x .used + 17) (sym e) (each-looks-on c w (handed (h .packet) (h .arrival)) .starved) d
 
     pub rows-short : Short c w
     rows-short = omega (arith, starved, by .rows, by .octets, by .wants d)
@@ -103,6 +106,6 @@ module _ (c : Check) (w packet : List ℕ) (arrival : ℕ) {l : Looked} (e : l �
     pub rows-end : ended (l .check) (drop (l .used) w) ≡ illFormed
     rows-end =
         let f : not (c .formed) ≡ false =
-        rows-formed c w (handed packet arrival) (c .formed) refl (ap (λ (x : Looked). x .wanted) (sym e) ∙ d) in
+        rows-formed c w (handed (h .packet) (h .arrival)) (c .formed) refl (ap (λ (x : Looked). x .wanted) (sym e) ∙ d) in
         sym (ends-short (l .check) (drop (l .used) w) (ap not (by .formed) ∙ f) (by .wants d)
         (omega (arith, starved, length-drop (l .used) w)))

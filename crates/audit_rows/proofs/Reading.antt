@@ -11,7 +11,7 @@ use lib.ListN.{length, take, drop, length-append, length-drop}
 use lib.Seq.{length-take-le}
 use Rattle.octets.specs.Pick.{pick}
 use Rattle.rules.specs.Channel.{Handed}
-use Rattle.window.specs.Window.{hand, Refills}
+use Rattle.window.specs.Window.{hand, Refills, unread}
 use Rattle.window.specs.declared.Refilled.{Refilled}
 use Rattle.window.proofs.Hands.{hand-behind, take-short}
 use Rattle.training.specs.Look.{handed, illFormed, looked, ended}
@@ -22,166 +22,108 @@ use Rattle.training.specs.declared.Check.{Check}
 use Rattle.training.specs.declared.Looked.{Looked}
 use Rattle.training.specs.declared.Wanted.the-variants as wanted
 use Rattle.training.proofs.Looking.{ends-not, ends-all, ends-short}
-use Rattle.audit_rows.specs.Goes.{stopped, handOf, Short, Comes, stood, told, ended as fell, Goes, missing, Turns, Fills, Ends}
+use Rattle.audit_form.specs.Reads.{brought}
+use Rattle.audit_form.proofs.Came.{some-came, none-came}
+use Rattle.audit_rows.specs.Goes.{fresh, stopped, handOf, behind, having, turned, Looks, packet, says, more, none, Going, idle, stays, looks, missing, Filling, full, fills, dry, Ending, stood, tells, Turns, Goes, Fills, Ends}
 use Rattle.audit_rows.specs.declared.Audit.{Audit}
 use Rattle.audit_rows.specs.declared.Turned.{Turned}
-use Rattle.audit_rows.proofs.Looks.{used-inside, look-says, look-goes, look-waits, look-short, rows-short, rows-fewer, rows-end}
+use Rattle.audit_rows.proofs.Looks.{Short, used-inside, look-says, look-goes, look-waits, look-short, rows-short, rows-fewer, rows-end}
 
-none : (l : List ℕ) → length l ≡ 0 → l ≡ []
-none [] h = refl
-none (x ∷ l) h = absurd (omega arith)
+empty : (l : List ℕ) → length l ≡ 0 → l ≡ []
+empty [] h = refl
+empty (x ∷ l) h = absurd (omega arith)
 
 both : {b : Bool} → b ≡ true → b ≡ false → ⊥
 both t f = true≢false (sym t ∙ f)
 
--- ---- one look
+-- no row is read yet
+pub freshly : (c : Check) {r : Refilled} → r ≡ unread
+    → _≡_ {A = Audit} (record { check = c; at = 0; end = 0; over = false; read = r; verdict = Passes }) (fresh c)
+freshly c e = ap (λ (x : Refilled). record { check = c; at = 0; end = 0; over = false; read = x; verdict = Passes }) e
 
-module _ (a : Audit) (rows packet : List ℕ) (arrival : ℕ) {w : List ℕ} (same : w ≡ handOf a rows) {l : Looked}
-    (m : l ≡ looked (a .check) w (handed packet arrival)) where
-  e : l ≡ looked (a .check) (handOf a rows) (handed packet arrival)
-  e = m ∙ ap (λ (x : List ℕ). looked (a .check) x (handed packet arrival)) same
+-- behind a read, with so many octets at hand
+abbrev pub holding : Audit → ℕ → Refilled → Audit
+holding a n r = record { check = a .check; at = 0; end = n; over = a .over; read = r; verdict = a .verdict }
+
+-- ---- what a call did
+
+module _ (a : Audit) (rows packet₁ : List ℕ) (arrival : ℕ) {w : List ℕ} (same : w ≡ handOf a rows) {l : Looked}
+    (m : l ≡ looked (a .check) w (handed packet₁ arrival)) where
+  abbrev h : Handed
+  h = handed packet₁ arrival
+
+  e : l ≡ looked (a .check) (handOf a rows) h
+  e = m ∙ ap (λ (x : List ℕ). looked (a .check) x h) same
 
   pub used-left : l .used ≤ length rows - a .at
   used-left =
-      omega (arith, used-inside (a .check) (handOf a rows) packet arrival e, take-short (a .end - a .at) (drop (a .at) rows), length-drop (a .at) rows)
+      omega (arith, used-inside (a .check) (handOf a rows) h e, take-short (a .end - a .at) (drop (a .at) rows), length-drop (a .at) rows)
 
-  abbrev from : ℕ
-  from = a .at + l .used
+  pub turns-packet : l .wanted ≡ wanted.Packet → Turns a rows h (turned (behind a l) true) rows
+  turns-packet d = record { piece = []; looks = packet l e d }
 
-  abbrev moved : ℕ → ℕ → Audit
-  moved at end = record { check = l .check; at = at; end = end; over = a .over; failed = a .failed; verdict = a .verdict }
+  pub turns-verdict : {u : Verdict} {b : Audit} → l .wanted ≡ wanted.Nothing u → b ≡ stopped (behind a l) u → Turns a rows h (turned b true) rows
+  turns-verdict {u} d s =
+      record { piece = []; looks = subst (λ (b : Audit). Looks a rows h (turned b true) [] rows) (sym s) (says l u e d) }
 
-  abbrev h : Handed
-  h = handed packet arrival
+  module _ (d : l .wanted ≡ wanted.Rows) {rows′ : List ℕ} {r : Refilled} (g : Refills rows (a .at + l .used) (a .end) rows′ r)
+      {n : ℕ} (same-have : n ≡ r .have) where
+    pub turns-rows : brought r ≡ true → Turns a rows h (turned (holding (behind a l) n r) false) rows′
+    turns-rows some =
+        subst (λ (k : ℕ). Turns a rows h (turned (holding (behind a l) k r) false) rows′) (sym same-have)
+        (record { piece = g .piece; looks = more l r g e d some })
 
-  behind : drop (l .used) (handOf a rows) ≡ hand rows from (a .end)
-  behind = hand-behind rows (a .at) (a .end) (l .used)
-
-  module _ (going : a .over ≡ false) where
-    -- the next packet is wanted
-    packet-back : l .wanted ≡ wanted.Packet → (more rest : List ℕ) (hs : List Handed) (v : Verdict)
-        → Comes (moved from (a .end)) rows more rest hs v → Comes a rows more rest (h ∷ hs) v
-    packet-back d more rest hs v (stood o f n q) = absurd (both o going)
-    packet-back d more rest hs v (told o t) =
-        told going (look-goes (a .check) (handOf a rows) packet arrival e (more ++ rest) hs d
-        (subst (λ (x : List ℕ). Tells (l .check) (x ++ (more ++ rest)) hs v) (sym behind) t))
-    packet-back d more rest hs v (fell o s q) =
-        fell going (look-short (a .check) (handOf a rows) packet arrival e more
-        (subst (λ (x : List ℕ). Short (l .check) (x ++ more)) (sym behind) s)) q
-
-    pub turns-packet : l .wanted ≡ wanted.Packet → Turns a rows h (record { audit = moved from (a .end); done = true }) rows
-    unfolding pick
-    turns-packet d = record {
-      piece = [];
-      goes = packet-back d;
-      goingOn = λ t. absurd (true≢false t);
-      less = λ t. absurd (true≢false t);
-    }
-
-    -- the verdict stands
-    verdict-back : {u : Verdict} {b : Audit} → l .wanted ≡ wanted.Nothing u → b ≡ stopped (moved from (a .end)) u false → (more rest : List ℕ) (hs : List Handed) (v : Verdict)
-        → Comes b rows more rest hs v → Comes a rows more rest (h ∷ hs) v
-    verdict-back {u} {b} d s more rest hs v (stood o f n q) =
-        let x : u ≡ v = sym (q ∙ ap (λ (y : Audit). y .verdict) s) in
-        told going (subst (Tells (a .check) (handOf a rows ++ (more ++ rest)) (h ∷ hs)) x
-        (look-says (a .check) (handOf a rows) packet arrival e (more ++ rest) hs d))
-    verdict-back d s more rest hs v (told o t) = absurd (both (ap (λ (y : Audit). y .over) s) o)
-    verdict-back d s more rest hs v (fell o t q) = absurd (both (ap (λ (y : Audit). y .over) s) o)
-
-    pub turns-verdict : {u : Verdict} {b : Audit} → l .wanted ≡ wanted.Nothing u → b ≡ stopped (moved from (a .end)) u false
-        → Turns a rows h (record { audit = b; done = true }) rows
-    unfolding pick
-    turns-verdict d s = record {
-      piece = [];
-      goes = verdict-back d s;
-      goingOn = λ t. absurd (true≢false t);
-      less = λ t. absurd (true≢false t);
-    }
-
-    -- rows are wanted
-    module _ (d : l .wanted ≡ wanted.Rows) {rows′ : List ℕ} {r : Refilled} (g : Refills rows from (a .end) rows′ r) where
-      window : hand rows′ 0 (r .have) ≡ drop (l .used) (handOf a rows) ++ g .piece
-      window = g .window ∙ ap (λ (x : List ℕ). x ++ g .piece) (sym behind)
-
-      rows-back : (more rest : List ℕ) (hs : List Handed) (v : Verdict)
-          → Comes (moved 0 (r .have)) rows′ more rest (h ∷ hs) v → Comes a rows (g .piece ++ more) rest (h ∷ hs) v
-      rows-back more rest hs v (stood o f n q) = absurd (both o going)
-      rows-back more rest hs v (told o t) =
-          let x : hand rows′ 0 (r .have) ++ (more ++ rest) ≡ drop (l .used) (handOf a rows) ++ ((g .piece ++ more) ++ rest) =
-          ap (λ (y : List ℕ). y ++ (more ++ rest)) window ∙ simp append-assoc in
-          told going (look-waits (a .check) (handOf a rows) packet arrival e ((g .piece ++ more) ++ rest) hs d
-          (subst (λ (y : List ℕ). Tells (l .check) y (h ∷ hs) v) x t))
-      rows-back more rest hs v (fell o s q) =
-          let x : hand rows′ 0 (r .have) ++ more ≡ drop (l .used) (handOf a rows) ++ (g .piece ++ more) =
-          ap (λ (y : List ℕ). y ++ more) window ∙ append-assoc (drop (l .used) (handOf a rows)) (g .piece) more in
-          fell going (look-short (a .check) (handOf a rows) packet arrival e (g .piece ++ more)
-          (subst (Short (l .check)) x s)) q
-
-      pub turns-rows : (r .came ≡ 0 → ⊥) → Turns a rows h (record { audit = moved 0 (r .have); done = false }) rows′
-      unfolding pick
-      turns-rows some = record {
-        piece = g .piece;
-        goes = rows-back;
-        goingOn = λ t. going;
-        less = λ t. subst (λ (x : List ℕ). 17 * (l .check .rows - l .check .row) - length x < missing a rows) (sym window)
-            (rows-fewer (a .check) (handOf a rows) packet arrival e d (g .piece) (omega (arith, g .many, some)));
-      }
-
-      -- and none came
-      module _ (z : r .came ≡ 0) {u : Verdict} {s : List ℕ} (x : s ≡ hand rows′ 0 (r .have)) (k : u ≡ ended (l .check) s) {b : Audit} (j : b ≡ stopped (moved 0 (r .have)) u (r .failed)) where
-        p : g .piece ≡ []
-        p = none (g .piece) (omega (arith, g .many))
-
-        wrong : b .verdict ≡ illFormed
-        wrong =
-            ap (λ (y : Audit). y .verdict) j ∙ k
-            ∙ ap (ended (l .check)) (x ∙ window ∙ ap (λ (y : List ℕ). drop (l .used) (handOf a rows) ++ y) p ∙ append-nil _)
-            ∙ rows-end (a .check) (handOf a rows) packet arrival e d
-
-        fell-back : (more rest : List ℕ) (hs : List Handed) (v : Verdict) → Comes b rows′ more rest hs v → Comes a rows more rest (h ∷ hs) v
-        fell-back more rest hs v (stood o f n q) =
-            let y : handOf a rows ++ more ≡ handOf a rows = ap (λ (y : List ℕ). handOf a rows ++ y) n ∙ append-nil _ in
-            fell going (subst (Short (a .check)) (sym y) (rows-short (a .check) (handOf a rows) packet arrival e d)) (q ∙ wrong)
-        fell-back more rest hs v (told o t) = absurd (both (ap (λ (y : Audit). y .over) j) o)
-        fell-back more rest hs v (fell o t q) = absurd (both (ap (λ (y : Audit). y .over) j) o)
-
-        pub turns-end : Turns a rows h (record { audit = b; done = true }) rows′
-        unfolding pick
-        turns-end = record {
-          piece = [];
-          goes = fell-back;
-          goingOn = λ t. absurd (true≢false t);
-          less = λ t. absurd (true≢false t);
-        }
+    pub turns-end : brought r ≡ false → {u : Verdict} {s : List ℕ} → s ≡ hand rows′ 0 n → u ≡ ended (l .check) s → {b : Audit}
+        → b ≡ stopped (holding (behind a l) n r) u → Turns a rows h (turned b true) rows′
+    turns-end z {u} x k {b} j =
+        let v = j ∙ ap (λ (m : ℕ). stopped (holding (behind a l) m r) u) same-have
+        ∙ ap (λ (y : Verdict). stopped (having (behind a l) r) y)
+        (k ∙ ap (ended (l .check)) (x ∙ ap (λ (m : ℕ). hand rows′ 0 m) same-have)) in
+        record { piece = g .piece; looks = subst (λ (y : Audit). Looks a rows h (turned y true) (g .piece) rows′) (sym v) (none l r g e d z) }
 
 -- ---- one after another
 
+pick-then : (d : Bool) (h : Handed) (ps hs : List Handed) → pick d ps (h ∷ ps) ++ hs ≡ pick d (ps ++ hs) (h ∷ (ps ++ hs))
+unfolding pick
+pick-then true h ps hs = refl
+pick-then false h ps hs = refl
+
+stays-then : {a c : Audit} {rows rows₂ q : List ℕ} {qs : List Handed} (ps : List Handed) → a .over ≡ true → Going a rows qs q c rows₂ → Going a rows ps q c rows₂
+stays-then ps o idle = stays o
+stays-then ps o (stays p) = stays o
+stays-then ps o (looks g x k) = absurd (both o g)
+
+pub going-then : {a b c : Audit} {rows rows₁ rows₂ p q : List ℕ} {ps : List Handed} (qs : List Handed) → Going a rows ps p b rows₁ → Going b rows₁ qs q c rows₂
+    → Going a rows (ps ++ qs) (p ++ q) c rows₂
+going-then qs idle y = y
+going-then {ps = ps} qs (stays o) y = stays-then (ps ++ qs) o y
+going-then {a} {c = c} {rows} {rows₂ = rows₂} {q = q} qs (looks {h = h} {ps} {t} {piece} {rows₁} {more = more₁} g x k) y =
+    subst (λ (m : List ℕ). Going a rows (h ∷ (ps ++ qs)) m c rows₂) (sym (append-assoc piece more₁ q))
+    (looks g x (subst (λ (z : List Handed). Going (t .audit) rows₁ z (more₁ ++ q) c rows₂) (pick-then (t .done) h ps qs) (going-then qs k y)))
+
 pub goes-none : (a : Audit) (rows : List ℕ) → Goes a rows [] a rows
-goes-none a rows = record { piece = []; goes = λ more rest hs v k. k }
+goes-none a rows = record { piece = []; going = idle }
 
 pub goes-then : {a b c : Audit} {rows rows₁ rows₂ : List ℕ} {ps qs : List Handed} → Goes a rows ps b rows₁ → Goes b rows₁ qs c rows₂ → Goes a rows (ps ++ qs) c rows₂
-goes-then {a} {b} {c} {rows} {ps = ps} {qs} x y = record {
-  piece = x .piece ++ y .piece;
-  goes = λ more rest hs v k.
-      subst (λ (q : List ℕ). Comes a rows q rest ((ps ++ qs) ++ hs) v) (sym (append-assoc (x .piece) (y .piece) more))
-      (subst (λ (q : List Handed). Comes a rows (x .piece ++ (y .piece ++ more)) rest q v) (sym (append-assoc ps qs hs))
-      (x .goes (y .piece ++ more) rest (qs ++ hs) v (y .goes more rest hs v k)));
-}
+goes-then {qs = qs} x y = record { piece = x .piece ++ y .piece; going = going-then qs (x .going) (y .going) }
 
 -- Turns beside one packet: it is done with it, or not.
 pub record Beside (a : Audit) (rows : List ℕ) (h : Handed) (b : Audit) (done : Bool) (rows′ : List ℕ) : Type 0 where
   pub piece : List ℕ
-  pub goes : (more rest : List ℕ) (hs : List Handed) (v : Verdict) → Comes b rows′ more rest (pick done hs (h ∷ hs)) v
-      → Comes a rows (piece ++ more) rest (h ∷ hs) v
+  pub goes : (c : Audit) (q rows₂ : List ℕ) → Going b rows′ (pick done [] (h ∷ [])) q c rows₂ → Going a rows (h ∷ []) (piece ++ q) c rows₂
   pub goingOn : done ≡ false → b .over ≡ false
 
+looks-on : {a : Audit} {rows piece rows′ : List ℕ} {h : Handed} {t : Turned} → a .over ≡ false → Looks a rows h t piece rows′ → t .done ≡ false → t .audit .over ≡ false
+looks-on g (packet l e d) f = absurd (true≢false f)
+looks-on g (says l v e d) f = absurd (true≢false f)
+looks-on g (more l r x e d s) f = g
+looks-on g (none l r x e d z) f = absurd (true≢false f)
+
 module _ (a : Audit) (rows : List ℕ) (h : Handed) where
-  over-back : (b : Bool) → a .over ≡ b → (more rest : List ℕ) (hs : List Handed) (v : Verdict) → Comes a rows more rest (pick b hs (h ∷ hs)) v → Comes a rows more rest (h ∷ hs) v
+  over-back : (b : Bool) → a .over ≡ b → (c : Audit) (q rows₂ : List ℕ) → Going a rows (pick b [] (h ∷ [])) q c rows₂ → Going a rows (h ∷ []) q c rows₂
   unfolding pick
-  over-back true e more rest hs v (stood o f n q) = stood o f n q
-  over-back true e more rest hs v (told o t) = absurd (both e o)
-  over-back true e more rest hs v (fell o s q) = absurd (both e o)
-  over-back false e more rest hs v k = k
+  over-back true e c q rows₂ k = stays-then (h ∷ []) e k
+  over-back false e c q rows₂ k = k
 
   pub no-turn : Beside a rows h a (a .over) rows
   no-turn = record { piece = []; goes = over-back (a .over) refl; goingOn = λ e. e }
@@ -191,21 +133,37 @@ module _ (a : Audit) (rows : List ℕ) (h : Handed) where
   unfolding pick
   one-turn {b} {rows₁ = rows₁} x e y = record {
     piece = x .piece ++ y .piece;
-    goes = λ more rest hs v k.
-        subst (λ (q : List ℕ). Comes a rows q rest (h ∷ hs) v) (sym (append-assoc (x .piece) (y .piece) more))
-        (x .goes (y .piece ++ more) rest hs v
-        (subst (λ (d : Bool). Comes b rows₁ (y .piece ++ more) rest (pick d hs (h ∷ hs)) v) (sym e) (y .goes more rest hs v k)));
-    goingOn = y .goingOn;
+    goes = λ c q rows₃ k.
+        subst (λ (m : List ℕ). Going a rows (h ∷ []) m c rows₃) (sym (append-assoc (x .piece) (y .piece) q))
+        (x .goes c (y .piece ++ q) rows₃
+        (subst (λ (d : Bool). Going b rows₁ (pick d [] (h ∷ [])) (y .piece ++ q) c rows₃) (sym e) (looks (x .goingOn e) (y .looks) k)));
+    goingOn = looks-on (x .goingOn e) (y .looks);
   }
 
   pub all-turns : {b : Audit} {done : Bool} {rows₁ : List ℕ} → Beside a rows h b done rows₁ → done ≡ true → Goes a rows (h ∷ []) b rows₁
   unfolding pick
   all-turns {b} {done} {rows₁} x e =
-      record { piece = x .piece; goes = λ more rest hs v k. x .goes more rest hs v (subst (λ (d : Bool). Comes b rows₁ more rest (pick d hs (h ∷ hs)) v) (sym e) k) }
+      record {
+        piece = x .piece ++ [];
+        going = x .goes b [] rows₁ (subst (λ (d : Bool). Going b rows₁ (pick d [] (h ∷ [])) [] b rows₁) (sym e) idle);
+      }
 
 -- how many turns there can be
 unfoldable pub turnsLeft : Audit → List ℕ → Bool → ℕ
 turnsLeft a rows done = pick done 0 (suc (missing a rows))
+
+-- the octets at hand after a read
+module _ (a : Audit) (rows : List ℕ) (l : Looked) {rows′ : List ℕ} {r : Refilled} (g : Refills rows (a .at + l .used) (a .end) rows′ r) where
+  window : hand rows′ 0 (r .have) ≡ drop (l .used) (handOf a rows) ++ g .piece
+  window = g .window ∙ ap (λ (x : List ℕ). x ++ g .piece) (sym (hand-behind rows (a .at) (a .end) (l .used)))
+
+looks-less : {a : Audit} {rows piece rows′ : List ℕ} {h : Handed} {t : Turned} → Looks a rows h t piece rows′ → t .done ≡ false → missing (t .audit) rows′ < missing a rows
+looks-less (packet l e d) f = absurd (true≢false f)
+looks-less (says l v e d) f = absurd (true≢false f)
+looks-less {a} {rows} {h = h} (more l r g e d s) f =
+    subst (λ (x : List ℕ). 17 * (l .check .rows - l .check .row) - length x < missing a rows) (sym (window a rows l g))
+    (rows-fewer (a .check) (handOf a rows) h e d (g .piece) (omega (arith, g .many, some-came r s)))
+looks-less (none l r g e d z) f = absurd (true≢false f)
 
 fewer-by : (d : Bool) (m n : ℕ) → (d ≡ false → m < n) → pick d 0 (suc m) < suc n
 unfolding pick
@@ -217,69 +175,164 @@ pub fewer-turns : {b : Audit} {rows₁ : List ℕ} {done : Bool} {h : Handed} {t
 unfolding turnsLeft pick
 fewer-turns {b} {rows₁} {t = t} {rows₂} e y =
     subst (λ (d : Bool). pick (t .done) 0 (suc (missing (t .audit) rows₂)) < pick d 0 (suc (missing b rows₁))) (sym e)
-    (fewer-by (t .done) (missing (t .audit) rows₂) (missing b rows₁) (y .less))
+    (fewer-by (t .done) (missing (t .audit) rows₂) (missing b rows₁) (looks-less (y .looks)))
 
 -- ---- no packet comes any more
 
-pub fills-none : (a : Audit) (rows : List ℕ) → Fills a rows a rows
-fills-none a rows = record { check = refl; piece = []; window = sym (append-nil _) }
+-- Reads so far: whatever is read from here on was read from there on.
+pub record Filled (a : Audit) (rows : List ℕ) (b : Audit) (rows′ : List ℕ) : Type 0 where
+  pub piece : List ℕ
+  pub fills : (c : Audit) (q rows₂ : List ℕ) → Filling b rows′ q c rows₂ → Filling a rows (piece ++ q) c rows₂
 
-pub fills-more : {a b : Audit} {rows rows₁ rows₂ : List ℕ} {r : Refilled} (failed : Bool) → Fills a rows b rows₁ → Refills rows₁ (b .at) (b .end) rows₂ r
-    → Fills a rows (record { check = b .check; at = 0; end = r .have; over = b .over; failed = failed; verdict = b .verdict }) rows₂
-fills-more {a} {rows = rows} failed f g = record {
-  check = f .check;
-  piece = f .piece ++ g .piece;
-  window = g .window ∙ ap (λ (x : List ℕ). x ++ g .piece) (f .window) ∙ append-assoc (handOf a rows) (f .piece) (g .piece);
-}
+pub none-filled : (a : Audit) (rows : List ℕ) → Filled a rows a rows
+none-filled a rows = record { piece = []; fills = λ c q rows₂ k. k }
+
+module _ {a b : Audit} {rows rows₁ rows₂ : List ℕ} {r : Refilled} (f : Filled a rows b rows₁) (g : Refills rows₁ (b .at) (b .end) rows₂ r) (s : length (handOf b rows₁) < 17)
+    {n : ℕ} (same-have : n ≡ r .have) where
+  pub more-filled : brought r ≡ true → Filled a rows (holding b n r) rows₂
+  more-filled some =
+      subst (λ (k : ℕ). Filled a rows (holding b k r) rows₂) (sym same-have)
+      (record {
+        piece = f .piece ++ g .piece;
+        fills = λ c q rows₃ k.
+            subst (λ (m : List ℕ). Filling a rows m c rows₃) (sym (append-assoc (f .piece) (g .piece) q))
+            (f .fills c (g .piece ++ q) rows₃ (fills r g s some k));
+      })
+
+  pub dry-filled : brought r ≡ false → Fills a rows (holding b n r) rows₂
+  dry-filled z = subst (λ (k : ℕ). Fills a rows (holding b k r) rows₂) (sym same-have) (record { piece = f .piece ++ g .piece; filling = f .fills _ (g .piece) rows₂ (dry r g s z) })
 
 -- so many are at hand
 pub here-now : {input input′ : List ℕ} {at end : ℕ} {r : Refilled} → Refills input at end input′ r → r .have ≡ length (hand input′ 0 (r .have))
 here-now {input′ = input′} {r = r} g = sym (ap (λ (k : ℕ). length (take k input′)) (sub-zero (r .have)) ∙ length-take-le (r .have) input′ (g .inside))
 
-pub more-here : {input input′ : List ℕ} {at end n : ℕ} {r : Refilled} → Refills input at end input′ r → n ≡ length (hand input at end) → (r .came ≡ 0 → ⊥) → n < r .have
-more-here {input} {at = at} {end} g e some =
-    omega (arith, here-now g, ap length (g .window), length-append (hand input at end) (g .piece), g .many, some)
+pub here-by : {input input′ : List ℕ} {at end n : ℕ} {r : Refilled} → Refills input at end input′ r → n ≡ r .have → n ≡ length (hand input′ 0 n)
+here-by {input′ = input′} g e = subst (λ (k : ℕ). k ≡ length (hand input′ 0 k)) (sym e) (here-now g)
+
+pub full-filled : {a b : Audit} {rows rows₁ : List ℕ} → Filled a rows b rows₁ → 17 ≤ length (handOf b rows₁) → Fills a rows b rows₁
+full-filled {b = b} {rows₁ = rows₁} f s = record { piece = f .piece ++ []; filling = f .fills b [] rows₁ (full s) }
+
+pub more-here : {input input′ : List ℕ} {at end n : ℕ} {r : Refilled} → Refills input at end input′ r → n ≡ length (hand input at end) → brought r ≡ true → n < r .have
+more-here {input} {at = at} {end} {r = r} g e some =
+    omega (arith, here-now g, ap length (g .window), length-append (hand input at end) (g .piece), g .many, some-came r some)
 
 module _ (a : Audit) (rows : List ℕ) where
   pub ends-over : a .over ≡ true → Ends a rows a rows
-  ends-over o = record { piece = []; over = o; comes = λ f rest. stood o f refl refl }
+  ends-over o = record { piece = []; ending = stood o }
 
-  module _ (going : a .over ≡ false) {b : Audit} {rows₁ : List ℕ} (f : Fills a rows b rows₁) where
-    -- with so much at hand
-    abbrev here : List ℕ
-    here = handOf a rows ++ f .piece
+  pub ends-told : a .over ≡ false → {b : Audit} {rows₁ : List ℕ} → Fills a rows b rows₁ → {w : List ℕ} {u : Verdict} {z : Audit}
+      → w ≡ handOf b rows₁ → u ≡ ended (b .check) w → z ≡ stopped b u → Ends a rows z rows₁
+  ends-told going {b} {rows₁} f x k s =
+      let v = s ∙ ap (λ (y : Verdict). stopped b y) (k ∙ ap (ended (b .check)) x) in
+      record { piece = f .piece; ending = subst (λ (y : Audit). Ending a rows (f .piece) y rows₁) (sym v) (tells going (f .filling)) }
 
-    by-row : (rest : List ℕ) → 17 ≤ length here → Tells (a .check) (handOf a rows ++ (f .piece ++ rest)) [] (ended (a .check) here)
-    by-row rest l =
-        ends (record { octets = here; behind = rest; cut = sym (append-assoc (handOf a rows) (f .piece) rest) }) (inl l) refl
+-- ---- the verdict v that an audit comes to, if `next` is what is read of the rows from here on, `rest` is not read any more, and these
+-- packets are still to be handed out, or the first of them is at hand
 
-    by-end : (rest : List ℕ) → {v : Verdict} → v ≡ ended (a .check) (handOf a rows ++ (f .piece ++ rest)) → Tells (a .check) (handOf a rows ++ (f .piece ++ rest)) [] v
-    by-end rest e =
-        ends (record { octets = handOf a rows ++ (f .piece ++ rest); behind = []; cut = sym (append-nil _) }) (inr refl) e
+pub data Comes (a : Audit) (rows next rest : List ℕ) (hs : List Handed) (v : Verdict) : Type 0 where
+  -- It stands, and nothing more is read.
+  stands : a .over ≡ true → a .read .failed ≡ false → next ≡ [] → v ≡ a .verdict → Comes a rows next rest hs v
+  -- Training's calls tell it from here on.
+  told : a .over ≡ false → Tells (a .check) (handOf a rows ++ (next ++ rest)) hs v → Comes a rows next rest hs v
+  -- The rows ended before the last of them: the table is shorter than at its first reading.
+  fell : a .over ≡ false → Short (a .check) (handOf a rows ++ next) → v ≡ illFormed → Comes a rows next rest hs v
 
-    by-rows : not (a .check .formed) ≡ false → (rest : List ℕ) → Dec (a .check .row < a .check .rows) → length here < 17
-        → Comes a rows (f .piece) rest [] (ended (a .check) here)
-    by-rows m rest (yes l) s =
-        fell going (omega (arith, l, s)) (sym (ends-short (a .check) here m l s))
-    by-rows m rest (no l) s =
-        let n : a .check .rows ≤ a .check .row = omega (arith, l) in
-        told going (by-end rest (sym (ends-all (a .check) here m n) ∙ ends-all (a .check) (handOf a rows ++ (f .piece ++ rest)) m n))
+looks-back : {a : Audit} {rows piece rows′ : List ℕ} {h : Handed} {t : Turned} → a .over ≡ false → Looks a rows h t piece rows′ → (next rest : List ℕ) (hs : List Handed) (v : Verdict)
+    → Comes (t .audit) rows′ next rest (pick (t .done) hs (h ∷ hs)) v → Comes a rows (piece ++ next) rest (h ∷ hs) v
+unfolding pick
+looks-back g (packet l e d) next rest hs v (stands o f n q) = absurd (both o g)
+looks-back {a} {rows} {h = h} g (packet l e d) next rest hs v (told o t) =
+    told g (look-goes (a .check) (handOf a rows) h e (next ++ rest) hs d
+    (subst (λ (x : List ℕ). Tells (l .check) (x ++ (next ++ rest)) hs v) (sym (hand-behind rows (a .at) (a .end) (l .used))) t))
+looks-back {a} {rows} {h = h} g (packet l e d) next rest hs v (fell o s q) =
+    fell g (look-short (a .check) (handOf a rows) h e next
+    (subst (λ (x : List ℕ). Short (l .check) (x ++ next)) (sym (hand-behind rows (a .at) (a .end) (l .used))) s)) q
+looks-back {a} {rows} {h = h} g (says l u e d) next rest hs v (stands o f n q) =
+    told g (subst (Tells (a .check) (handOf a rows ++ (next ++ rest)) (h ∷ hs)) (sym q)
+    (look-says (a .check) (handOf a rows) h e (next ++ rest) hs d))
+looks-back g (says l u e d) next rest hs v (told o t) = absurd (true≢false o)
+looks-back g (says l u e d) next rest hs v (fell o t q) = absurd (true≢false o)
+looks-back g (more l r x e d s) next rest hs v (stands o f n q) = absurd (both o g)
+looks-back {a} {rows} {h = h} g (more l {rows′} r x e d s) next rest hs v (told o t) =
+    let y : hand rows′ 0 (r .have) ++ (next ++ rest) ≡ drop (l .used) (handOf a rows) ++ ((x .piece ++ next) ++ rest) =
+    ap (λ (z : List ℕ). z ++ (next ++ rest)) (window a rows l x) ∙ simp append-assoc in
+    told g (look-waits (a .check) (handOf a rows) h e ((x .piece ++ next) ++ rest) hs d
+    (subst (λ (z : List ℕ). Tells (l .check) z (h ∷ hs) v) y t))
+looks-back {a} {rows} {h = h} g (more l {rows′} r x e d s) next rest hs v (fell o t q) =
+    let y : hand rows′ 0 (r .have) ++ next ≡ drop (l .used) (handOf a rows) ++ (x .piece ++ next) =
+    ap (λ (z : List ℕ). z ++ next) (window a rows l x) ∙ append-assoc (drop (l .used) (handOf a rows)) (x .piece) next in
+    fell g (look-short (a .check) (handOf a rows) h e (x .piece ++ next) (subst (Short (l .check)) y t)) q
+looks-back {a} {rows} {h = h} g (none l {rows′} r x e d z) next rest hs v (stands o f n q) =
+    let p : x .piece ≡ [] = empty (x .piece) (x .many ∙ none-came r z f) in
+    let y : handOf a rows ++ (x .piece ++ next) ≡ handOf a rows =
+    ap (λ (y : List ℕ). handOf a rows ++ (y ++ next)) p ∙ ap (λ (y : List ℕ). handOf a rows ++ y) n ∙ append-nil _ in
+    let wrong : ended (l .check) (hand rows′ 0 (r .have)) ≡ illFormed =
+    ap (ended (l .check)) (window a rows l x ∙ ap (λ (y : List ℕ). drop (l .used) (handOf a rows) ++ y) p ∙ append-nil _)
+    ∙ rows-end (a .check) (handOf a rows) h e d in
+    fell g (subst (Short (a .check)) (sym y) (rows-short (a .check) (handOf a rows) h e d)) (q ∙ wrong)
+looks-back g (none l r x e d z) next rest hs v (told o t) = absurd (true≢false o)
+looks-back g (none l r x e d z) next rest hs v (fell o t q) = absurd (true≢false o)
 
-    by-form : (rest : List ℕ) (g : Bool) → a .check .formed ≡ g → length here < 17 → Comes a rows (f .piece) rest [] (ended (a .check) here)
-    by-form rest true e s = by-rows (ap not e) rest (decLt _ _) s
-    by-form rest false e s =
-        told going (by-end rest (sym (ends-not (a .check) here (ap not e)) ∙ ends-not (a .check) (handOf a rows ++ (f .piece ++ rest)) (ap not e)))
+stays-back : {a : Audit} {rows next rest : List ℕ} {hs : List Handed} {v : Verdict} (ps : List Handed) → a .over ≡ true → Comes a rows next rest hs v → Comes a rows next rest ps v
+stays-back ps o (stands p f n q) = stands p f n q
+stays-back ps o (told p t) = absurd (both o p)
+stays-back ps o (fell p s q) = absurd (both o p)
 
-    by-length : (rest : List ℕ) → Dec (length here < 17) → Comes a rows (f .piece) rest [] (ended (a .check) here)
-    by-length rest (yes s) = by-form rest (a .check .formed) refl s
-    by-length rest (no s) = told going (by-row rest (omega (arith, s)))
+pub going-back : {a b : Audit} {rows piece rows′ : List ℕ} {ps : List Handed} → Going a rows ps piece b rows′ → (next rest : List ℕ) (hs : List Handed) (v : Verdict)
+    → Comes b rows′ next rest hs v → Comes a rows (piece ++ next) rest (ps ++ hs) v
+going-back idle next rest hs v k = k
+going-back {ps = ps} (stays o) next rest hs v k = stays-back (ps ++ hs) o k
+going-back {a} {rows = rows} (looks {h = h} {ps} {t} {piece} {rows₁} {more = more₁} g x y) next rest hs v k =
+    subst (λ (m : List ℕ). Comes a rows m rest (h ∷ (ps ++ hs)) v) (sym (append-assoc piece more₁ next))
+    (looks-back g x (more₁ ++ next) rest (ps ++ hs) v
+    (subst (λ (z : List Handed). Comes (t .audit) rows₁ (more₁ ++ next) rest z v) (pick-then (t .done) h ps hs) (going-back y next rest hs v k)))
 
-    pub ends-told : {w : List ℕ} {u : Verdict} {z : Audit} → w ≡ handOf b rows₁ → u ≡ ended (b .check) w → z ≡ stopped b u (b .failed) → Ends a rows z rows₁
-    ends-told {w} {u} {z} x k s =
-        let v : z .verdict ≡ ended (a .check) here =
-        ap (λ (y : Audit). y .verdict) s ∙ k ∙ ap (ended (b .check)) (x ∙ f .window) ∙ ap (λ (c : Check). ended c here) (f .check) in
-        record {
-          piece = f .piece;
-          over = ap (λ (y : Audit). y .over) s;
-          comes = λ e rest. subst (Comes a rows (f .piece) rest []) (sym v) (by-length rest (decLt _ _));
-        }
+-- the octets at hand at the end
+record Whole (a : Audit) (rows piece : List ℕ) (b : Audit) (rows′ : List ℕ) : Type 0 where
+  check : b .check ≡ a .check
+  hands : handOf b rows′ ≡ handOf a rows ++ piece
+
+filling-whole : {a b : Audit} {rows piece rows′ : List ℕ} → Filling a rows piece b rows′ → Whole a rows piece b rows′
+filling-whole (full s) = record { check = refl; hands = sym (append-nil _) }
+filling-whole {a} {rows = rows} {rows′ = rows′} (fills {more = more₁} {b = b} r g s some k) =
+    let w = filling-whole k in
+    record {
+      check = w .check;
+      hands = w .hands ∙ ap (λ (x : List ℕ). x ++ more₁) (g .window) ∙ append-assoc (handOf a rows) (g .piece) more₁;
+    }
+filling-whole (dry r g s z) = record { check = refl; hands = g .window }
+
+module _ (a : Audit) (rows : List ℕ) (going : a .over ≡ false) (piece : List ℕ) where
+  -- with so much at hand
+  abbrev here : List ℕ
+  here = handOf a rows ++ piece
+
+  by-row : (rest : List ℕ) → 17 ≤ length here → Tells (a .check) (handOf a rows ++ (piece ++ rest)) [] (ended (a .check) here)
+  by-row rest l = ends (record { octets = here; behind = rest; cut = sym (append-assoc (handOf a rows) piece rest) }) (inl l) refl
+
+  by-end : (rest : List ℕ) → {v : Verdict} → v ≡ ended (a .check) (handOf a rows ++ (piece ++ rest)) → Tells (a .check) (handOf a rows ++ (piece ++ rest)) [] v
+  by-end rest e = ends (record { octets = handOf a rows ++ (piece ++ rest); behind = []; cut = sym (append-nil _) }) (inr refl) e
+
+  by-rows : not (a .check .formed) ≡ false → (rest : List ℕ) → Dec (a .check .row < a .check .rows) → length here < 17
+      → Comes a rows piece rest [] (ended (a .check) here)
+  by-rows m rest (yes l) s = fell going (omega (arith, l, s)) (sym (ends-short (a .check) here m l s))
+  by-rows m rest (no l) s =
+      let n : a .check .rows ≤ a .check .row = omega (arith, l) in
+      told going (by-end rest (sym (ends-all (a .check) here m n) ∙ ends-all (a .check) (handOf a rows ++ (piece ++ rest)) m n))
+
+  by-form : (rest : List ℕ) (g : Bool) → a .check .formed ≡ g → length here < 17 → Comes a rows piece rest [] (ended (a .check) here)
+  by-form rest true e s = by-rows (ap not e) rest (decLt _ _) s
+  by-form rest false e s =
+      told going (by-end rest (sym (ends-not (a .check) here (ap not e)) ∙ ends-not (a .check) (handOf a rows ++ (piece ++ rest)) (ap not e)))
+
+  by-length : (rest : List ℕ) → Dec (length here < 17) → Comes a rows piece rest [] (ended (a .check) here)
+  by-length rest (yes s) = by-form rest (a .check .formed) refl s
+  by-length rest (no s) = told going (by-row rest (omega (arith, s)))
+
+pub ending-back : {a b : Audit} {rows piece rows′ : List ℕ} → Ending a rows piece b rows′ → b .read .failed ≡ false → (rest : List ℕ) → Comes a rows piece rest [] (b .verdict)
+ending-back (stood o) f rest = stands o f refl refl
+ending-back {a} {rows = rows} {piece = piece} {rows′ = rows′} (tells {b = b} going k) f rest =
+    let w = filling-whole k in
+    let v : ended (b .check) (handOf b rows′) ≡ ended (a .check) (handOf a rows ++ piece) =
+    ap (ended (b .check)) (w .hands) ∙ ap (λ (c : Check). ended c (handOf a rows ++ piece)) (w .check) in
+    subst (Comes a rows piece rest []) (sym v) (by-length a rows going piece rest (decLt _ _))

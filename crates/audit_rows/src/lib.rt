@@ -13,15 +13,16 @@ use training::Check;
 use training::Form;
 use training::Verdict;
 use training::Wanted;
+use window::Refilled;
 
 // Where the reading stands: the check, the octets of the rows from at up to end of a buffer, which are read and not yet used, whether it is
-// over, whether that is because a read failed, and if not the verdict.
+// over, what the last read of the table answered, and once it is over the verdict, which stands unless that read failed.
 pub struct Audit {
     pub check: Check,
     pub at: usize,
     pub end: usize,
     pub over: bool,
-    pub failed: bool,
+    pub read: Refilled,
     pub verdict: Verdict,
 }
 
@@ -36,12 +37,13 @@ impl Audit {
     pub fn fresh(check: Check) -> Audit
         ensures { λ r. ⌜ r ≡ fresh check ⌝ }
     {
+        let read = Refilled::none();
         Audit {
             check,
             at: 0,
             end: 0,
             over: false,
-            failed: false,
+            read,
             verdict: Verdict::Passes,
         }
     }
@@ -79,20 +81,21 @@ impl Audit {
         let at = audit.at;
         let end = audit.end;
         let verdict = check.end(window::hand(rows, at, end));
-        audit.stopped(verdict, audit.failed)
+        audit.stopped(verdict)
     }
 
-    // The verdict stands, unless a read failed.
-    fn stopped(self, verdict: Verdict, failed: bool) -> Audit
-        ensures { λ r. ⌜ r ≡ stopped self verdict failed ⌝ }
+    // The reading is over: the verdict stands, unless the last read failed.
+    fn stopped(self, verdict: Verdict) -> Audit
+        ensures { λ r. ⌜ r ≡ stopped self verdict ⌝ }
     {
         let check = self.check;
+        let read = self.read;
         Audit {
             check,
             at: self.at,
             end: self.end,
             over: true,
-            failed,
+            read,
             verdict,
         }
     }
@@ -158,22 +161,23 @@ impl Audit {
         match wanted {
             Wanted::Packet => Turned { audit, done: true },
             Wanted::Nothing(verdict) => {
-                let last = audit.stopped(verdict, false);
+                let last = audit.stopped(verdict);
                 Turned {
                     audit: last,
                     done: true,
                 }
             }
             Wanted::Rows => {
-                let refilled = window::refill(name, table, rows, from, end);
-                let have = refilled.have;
+                let read = window::refill(name, table, rows, from, end);
+                let have = read.have();
                 audit.at = 0;
                 audit.end = have;
-                if refilled.came != 0 {
+                audit.read = read;
+                if audit_form::brought(read) {
                     return Turned { audit, done: false };
                 }
                 let verdict = check.end(window::hand(rows, 0, have));
-                let last = audit.stopped(verdict, refilled.failed);
+                let last = audit.stopped(verdict);
                 Turned {
                     audit: last,
                     done: true,
@@ -193,12 +197,12 @@ impl Audit {
         while here < Form::ROW {
             let at = audit.at;
             let end = audit.end;
-            let refilled = window::refill(name, table, rows, at, end);
-            here = refilled.have;
+            let read = window::refill(name, table, rows, at, end);
+            here = read.have();
             audit.at = 0;
             audit.end = here;
-            if refilled.came == 0 {
-                audit.failed = refilled.failed;
+            audit.read = read;
+            if !audit_form::brought(read) {
                 return audit;
             }
         }

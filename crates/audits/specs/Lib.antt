@@ -1,2 +1,3 @@
-pub mod Turns
+pub mod Loop
+pub mod Told
 pub mod Whole

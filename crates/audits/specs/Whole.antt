@@ -1,38 +1,89 @@
--- Turns one after another, from the first to the input's end: what is told then is the verdict of Table on the packets handed out.
+-- From the first turn to the last: what is told is the verdict of Table, on the octets of the table and the packets of the input as they were
+-- read.
 use Prim.Native.Nat.{ℕ, _<_}
 use mathlib.Core.Path.{_≡_}
-use mathlib.Core.Logic.{_⊎_}
 use mathlib.Core.Bool.{true, false}
 use mathlib.Core.List.{List, _++_}
-use lib.ListN.{length, drop}
+use lib.ListN.{take, drop}
 use Rattle.octets.specs.Numbers.{at}
 use Rattle.rules.specs.Channel.{Handed}
-use Rattle.rules.specs.Packets.{joined}
-use Rattle.session.specs.Lent.{Lent}
-use Rattle.training.specs.Table.{rowsFrom, verdict}
-use Rattle.training.specs.Form.{started}
-use Rattle.training.specs.Look.{illFormed}
-use Rattle.audit_rows.specs.Goes.{fresh}
-use Rattle.audits.specs.Turns.{FirstRead, packetsOf, Turned}
-use Rattle.audits.specs.declared.Formed.{Formed}
-use Rattle.audits.specs.declared.State.{State}
+use Rattle.session.specs.Lent.{Lent, Enough}
+use Rattle.receiver.specs.Run.{toCome}
+use Rattle.receiver.specs.declared.Receiver.{Receiver}
+use Rattle.window.specs.Status.{done}
+use Rattle.window.specs.declared.Written.{Written}
+use Rattle.training.specs.Table.{rowsFrom}
+use Rattle.training.specs.Form.{known, started}
+use Rattle.training.specs.declared.Verdict.{Verdict}
+use Rattle.training.specs.declared.Verdict.the-variants.{Passes}
+use Rattle.audit_form.specs.Reads.{broughtBy}
+use Rattle.audit_form.specs.Reads.{Looped as ReadFirst}
+use Rattle.audit_form.specs.declared.Formed.{Formed}
+use Rattle.audit_line.specs.Text.{verdictLine}
+use Rattle.audit_rows.specs.Right.{RightOf}
+use Rattle.audits.specs.Loop.{Looped, inputOf, tableOf, packetsIn}
+use Rattle.audits.specs.Told.{firstStatus, Tells, Ends}
+use Rattle.audits.specs.declared.Stopped.{Stopped}
 
--- Turns that each did what `State::turn` promises, up to one after which it does not go on, and all packets that the session handed out in them.
-pub data Throughout : State → List ℕ → List ℕ → Lent → List ℕ → List Handed → State → Type 0 where
-  turns : {s s′ z : State} {input kept input′ kept′ rows rows′ : List ℕ} {l l′ : Lent} {ps : List Handed} → Turned s input kept l rows s′ input′ kept′ l′ rows′
-      → s′ .going ≡ true → Throughout s′ input′ kept′ l′ rows′ ps z → Throughout s input kept l rows (packetsOf s input kept l ++ ps) z
-  ends : {s z : State} {input kept input′ kept′ rows rows′ : List ℕ} {l l′ : Lent} → Turned s input kept l rows z input′ kept′ l′ rows′
-      → z .going ≡ false → Throughout s input kept l rows (packetsOf s input kept l) z
+-- Both readings, with room enough for what a session hands out.
+pub record Readings (a : Receiver) (kept : List ℕ) : Type 0 where
+  pub formed : Formed
+  pub buffer : List ℕ
+  pub buffer′ : List ℕ
+  pub reads : ReadFirst buffer formed buffer′
+  pub input : List ℕ
+  pub rows : List ℕ
+  pub lent : Lent
+  pub enough : Enough lent
+  pub stopped : Stopped
+  pub input′ : List ℕ
+  pub kept′ : List ℕ
+  pub lent′ : Lent
+  pub rows′ : List ℕ
+  pub turns : Looped a (started (formed .reading .form)) input kept lent rows stopped input′ kept′ lent′ rows′
 
--- At the input's end, unless a read failed: `more` was read of the rows, and whatever was left of the table behind it, the verdict is right, or
--- it is that the table is badly formed, where something was left.
-pub record ToldRight (table : List ℕ) (form : Formed) (packets : List Handed) (z : State) : Type 0 where
-  pub more : List ℕ
-  pub right : (behind : List ℕ) → drop (rowsFrom (started (form .form) .columns)) table ≡ more ++ behind
-      → (z .audit .verdict ≡ verdict table packets) ⊎ ((z .audit .verdict ≡ illFormed) × (0 < length behind))
+-- The octets of the table that the first reading brought, the octets of the input, and those of the table's rows that the second brought.
+abbrev pub firstRead : {a : Receiver} {kept : List ℕ} → Readings a kept → List ℕ
+firstRead c = broughtBy (c .reads .made .turns)
 
--- For every table that the first reading took in, whatever pieces that was in, and every run of turns.
+abbrev pub inputRead : {a : Receiver} {kept : List ℕ} → Readings a kept → List ℕ
+inputRead c = inputOf (c .turns .made .turns)
+
+abbrev pub rowsRead : {a : Receiver} {kept : List ℕ} → Readings a kept → List ℕ
+rowsRead c = tableOf (c .turns .made .turns)
+
+-- They came to an end with a verdict: the first reading reached the file's end and found the table well formed, the input has ended, and no
+-- read failed.
+pub record Checked {a : Receiver} {kept : List ℕ} (c : Readings a kept) (v : Verdict) : Type 0 where
+  pub formed : firstStatus (c .formed) (started (c .formed .reading .form)) ≡ done
+  pub ended : c .stopped .state .ended ≡ true
+  pub sound : c .stopped .state .audit .read .failed ≡ false
+  pub tells : c .stopped .state .audit .verdict ≡ v
+
+-- The packets that were handed out are those that the octets read of the input make, in their order.
+abbrev pub HandsOut : Type 0
+HandsOut = (a : Receiver) (kept : List ℕ) (c : Readings a kept) (v : Verdict) → Checked c v
+    → packetsIn (c .turns .made .turns) ≡ toCome a kept (inputRead c)
+
+-- A table as it was read: the first reading would give its form, and its rows begin with the octets that were read of them in the second,
+-- whatever stands behind those. It is the table that was read first, if that did not change in between.
+pub record AsRead (first more table : List ℕ) : Type 0 where
+  pub octets : (i : ℕ) → at table i < 256
+  pub same : known table ≡ known first
+  pub behind : List ℕ
+  pub rows : drop (rowsFrom (started (known first) .columns)) table ≡ more ++ behind
+
+-- The verdict is that of the table on those packets; or that it is badly formed, where fewer octets of its rows were read than they have.
 abbrev pub TellsRight : Type 0
-TellsRight = (table : List ℕ) (form : Formed) (first : FirstRead (form .form)) → ((i : ℕ) → at table i < 256) → joined (first .pieces) ≡ table
-    → (s z : State) (input kept rows : List ℕ) (l : Lent) (packets : List Handed) → s .audit ≡ fresh (started (form .form))
-    → Throughout s input kept l rows packets z → z .ended ≡ true → z .audit .failed ≡ false → ToldRight table form packets z
+TellsRight = (a : Receiver) (kept : List ℕ) (c : Readings a kept) (v : Verdict) → Checked c v
+    → (table : List ℕ) → AsRead (firstRead c) (rowsRead c) table → RightOf table (toCome a kept (inputRead c)) (rowsRead c) v
+
+-- The exit status is 0 only if the verdict is that the table passes, and this was handed to a write that did not fail.
+pub record Passed {a : Receiver} {kept : List ℕ} (c : Readings a kept) (w : Written) (line : List ℕ) : Type 0 where
+  pub checked : Checked c Passes
+  pub text : take (w .size) line ≡ verdictLine Passes
+  pub written : w .failed ≡ false
+
+abbrev pub DoneIsPassed : Type 0
+DoneIsPassed = (a : Receiver) (kept : List ℕ) (c : Readings a kept) → firstStatus (c .formed) (started (c .formed .reading .form)) ≡ done
+    → (w : Written) (line : List ℕ) → Tells (c .stopped .state) w line → Ends (c .stopped .state) (w .failed) done → Passed c w line

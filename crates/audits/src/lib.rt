@@ -1,83 +1,77 @@
 // Checks a training table, a file, against a recording or a stream that comes by a descriptor, and writes the verdict as one line.
 //
-// What is told is training's. Here are the loops: the file is read twice, first for its form, then its rows beside the packets.
+// What is told is training's. The file is opened once and read twice, first for its form, then its rows beside the packets.
 ghost use Prim.Native.Nat.{_≤_};
 ghost use mathlib.Core.Path.{_≡_};
 ghost use lib.ListN.{length, take};
 ghost use Rattle.session.specs.Lent.{lent};
-ghost use Rattle.audit_line.specs.Text.{longestVerdict};
-ghost use Rattle.audits.specs.Turns.{FirstRead, Grows, Heeds, Turned, saidBy};
-use audit_rows::Audit;
-use feed::Feed;
-use feed::Pull;
+ghost use Rattle.audit_line.specs.Text.{longestVerdict, verdictLine};
+ghost use Rattle.audits.specs.Loop.{Looped};
+ghost use Rattle.audits.specs.Told.{firstStatus, standing, Tells, Ends};
+use audit_form::Formed;
+use audit_turns::State;
+use libc::SEEK_SET;
 use libc::STDERR_FILENO;
 use receiver::Receiver;
 use session::Session;
 use stretch::KEPT;
 use training::Check;
-use training::Form;
+use training::Verdict;
+use window::Written;
 
-// What the first reading gave, and whether it failed.
-struct Formed {
-    form: Form,
-    failed: bool,
+// The most turns.
+const TURNS: u64 = 18446744073709551615;
+
+// Where the second reading stopped, and after how many turns.
+struct Stopped {
+    state: State,
+    made: u64,
 }
 
-// The form with a piece more, how many octets came, and whether the read failed.
-struct Piece {
-    form: Form,
-    came: usize,
-    failed: bool,
-}
-
-// Where both readings stand, of the input and of the rows, whether they go on, and if not whether the input has ended: then the verdict
-// stands.
-struct State {
-    feed: Feed,
-    receiver: Receiver,
-    audit: Audit,
-    going: bool,
-    ended: bool,
-}
-
-// The same of the rows alone.
-struct Heeded {
-    audit: Audit,
-    going: bool,
-    ended: bool,
-}
-
-// Checks the table in the file at path against what a fresh receiver hands out of the descriptor source, and writes one line to standard
-// output. What fails, and why a recording is bad, is told on standard error, behind the program's name.
-pub fn run(name: &[u8], path: &[u8], source: i32, receiver: Receiver) {
-    let mut buffer = io::large_buffer();
-    let first = open(name, path);
-    if first < 0 {
-        return;
-    }
-    let formed = form(name, path, first, &mut buffer);
-    libc::close(first);
-    if formed.failed {
-        return;
-    }
-    let table = open(name, path);
-    if table < 0 {
-        return;
-    }
-    let read = formed.form;
-    let check = read.end();
-    skip(table, check.start(), &mut buffer);
-    second(name, table, check, source, &mut buffer, receiver);
-    libc::close(table);
-}
-
-// Opens the table; one that cannot be opened is told.
-fn open(name: &[u8], path: &[u8]) -> i32 {
+// Checks the table in the file at path against what a fresh receiver hands out of the descriptor source, writes one line to standard output,
+// and answers the program's exit status. What fails, and why a recording is bad, is told on standard error, behind the program's name.
+pub fn run(name: &[u8], path: &[u8], source: i32, receiver: Receiver) -> i32 {
     let table = os::open_read(path);
     if table < 0 {
         complain(name, path);
+        return window::BROKEN;
     }
-    table
+    let status = readings(name, path, table, source, receiver);
+    libc::close(table);
+    status
+}
+
+// Both readings of the table. One that is badly formed is told before anything of the input is read.
+fn readings(name: &[u8], path: &[u8], table: i32, source: i32, receiver: Receiver) -> i32 {
+    if !readable(table) {
+        complain(name, path);
+        return window::BROKEN;
+    }
+    let mut buffer = io::large_buffer();
+    let mut line = [0u8; audit_line::VERDICT];
+    let formed = audit_form::form(name, table, &mut buffer);
+    let reading = formed.reading;
+    let form = reading.form;
+    let check = form.end();
+    let status = first_status(formed, check);
+    if status == window::BROKEN {
+        return status;
+    }
+    if status == window::AGAINST {
+        let verdict = check.end(&buffer);
+        let told = say(name, &mut line, verdict);
+        if told.failed() {
+            return window::BROKEN;
+        }
+        return status;
+    }
+    if !sought(table, check.start()) {
+        complain(name, path);
+        return window::BROKEN;
+    }
+    let state = second(name, table, check, source, &mut buffer, receiver);
+    let written = told(name, state, &mut line);
+    state_status(state, written)
 }
 
 // Says on standard error, behind the program's name, that the system failed with the table.
@@ -87,51 +81,38 @@ fn complain(name: &[u8], path: &[u8]) {
     os::fail(path);
 }
 
-// The first reading: the form of the whole file, read by a buffer. After 2^64 - 1 pieces it would fail.
-fn form(name: &[u8], path: &[u8], table: i32, buffer: &mut [u8]) -> Formed
-    ensures { λ r. ⌜ FirstRead (r .form) ⌝ }
+// Whether the table's first octet can be read, by its place and without going on from there: not of a folder or a pipe.
+fn readable(table: i32) -> bool {
+    let mut one = [0u8; 1];
+    let got = libc::pread(table, &mut one, 0);
+    0 <= got
+}
+
+// Goes to an index of the table, where its rows begin; whether the system did.
+fn sought(table: i32, at: usize) -> bool {
+    if 65536 < at {
+        return false;
+    }
+    let from = at as i64;
+    libc::lseek(table, from, SEEK_SET) == from
+}
+
+// What the first reading comes to: that it did not reach the file's end, that the table is badly formed, or that its rows are to be read.
+fn first_status(formed: Formed, check: Check) -> i32
+    ensures { λ r. ⌜ r ≡ firstStatus formed check ⌝ }
 {
-    let mut form = Form::fresh();
-    let mut left: u64 = 18446744073709551615;
-    while left > 0 {
-        let piece = more(name, path, table, buffer, form);
-        form = piece.form;
-        if piece.failed | (piece.came == 0) {
-            return Formed {
-                form,
-                failed: piece.failed,
-            };
-        }
-        left -= 1;
+    let reading = formed.reading;
+    let read = reading.read;
+    if reading.going | read.failed() {
+        return window::BROKEN;
     }
-    Formed { form, failed: true }
+    if check.formed {
+        return window::DONE;
+    }
+    window::AGAINST
 }
 
-// Reads once, and goes on with the form by the octets that came. A read that fails is told.
-fn more(name: &[u8], path: &[u8], table: i32, buffer: &mut [u8], form: Form) -> Piece
-    ensures { λ r. ⌜ Grows form r (now (buffer .exit)) ⌝ }
-{
-    let got = libc::read(table, buffer);
-    if got < 0 {
-        complain(name, path);
-    }
-    let came = io::count(got, buffer);
-    let next = form.read(octets::part(buffer, 0, came));
-    Piece {
-        form: next,
-        came,
-        failed: got < 0,
-    }
-}
-
-// Reads the octets before the rows; where they are not there any more the rows are not either.
-fn skip(table: i32, n: usize, buffer: &mut [u8]) {
-    if n <= buffer.len() {
-        io::read_full(table, &mut buffer[..n]);
-    }
-}
-
-// The second reading, with a buffer for the rows.
+// The second reading, with a buffer for the rows: where it stops.
 fn second(
     name: &[u8],
     table: i32,
@@ -139,13 +120,13 @@ fn second(
     source: i32,
     buffer: &mut [u8],
     receiver: Receiver,
-) {
+) -> State {
     let mut input = io::large_buffer();
     let mut kept = [0u8; KEPT];
     let mut octets = [0u8; Session::OCTETS];
     let mut lengths = [0u16; Session::LENGTHS];
     let mut firsts = [0u32; Session::FIRSTS];
-    rows(
+    let stopped = rows(
         name,
         table,
         check,
@@ -158,9 +139,15 @@ fn second(
         &mut firsts,
         receiver,
     );
+    let state = stopped.state;
+    if state.going {
+        io::write_all(STDERR_FILENO, name);
+        io::write_all(STDERR_FILENO, b": the input has no end\n");
+    }
+    state
 }
 
-// The same with all buffers. After 2^64 - 1 turns it would end too.
+// The same with all buffers. After 2^64 - 1 turns it would stop too.
 fn rows(
     name: &[u8],
     table: i32,
@@ -173,21 +160,16 @@ fn rows(
     lengths: &mut [u16],
     firsts: &mut [u32],
     receiver: Receiver,
-) {
-    let feed = Feed::fresh();
-    let audit = Audit::fresh(check);
-    let mut state = State {
-        feed,
-        receiver,
-        audit,
-        going: true,
-        ended: false,
-    };
-    let mut left: u64 = 18446744073709551615;
-    while left > 0 {
-        if !state.going {
-            told(name, state);
-            return;
+) -> Stopped
+    ensures { λ r. ⌜ Looped receiver check (now (input .entry)) (now (kept .entry))
+        (lent (now (octets .entry)) (now (lengths .entry)) (now (firsts .entry))) (now (buffer .entry)) r (now (input .exit)) (now (kept .exit))
+        (lent (now (octets .exit)) (now (lengths .exit)) (now (firsts .exit))) (now (buffer .exit)) ⌝ }
+{
+    let mut state = State::fresh(receiver, check);
+    let mut made: u64 = 0;
+    while state.going {
+        if made == TURNS {
+            return Stopped { state, made };
         }
         state = state.turn(
             name,
@@ -200,104 +182,67 @@ fn rows(
             lengths,
             firsts,
         );
-        left -= 1;
+        made += 1;
     }
+    Stopped { state, made }
 }
 
-impl State {
-    // One pull at the input that comes by the descriptor source, and the rows beside the packets that it handed out.
-    fn turn(
-        self,
-        name: &[u8],
-        table: i32,
-        source: i32,
-        input: &mut [u8],
-        rows: &mut [u8],
-        kept: &mut [u8; KEPT],
-        octets: &mut [u8],
-        lengths: &mut [u16],
-        firsts: &mut [u32],
-    ) -> State
-        ensures { λ r. ⌜ Turned self (now (input .entry)) (now (kept .entry))
-            (lent (now (octets .entry)) (now (lengths .entry)) (now (firsts .entry))) (now (rows .entry)) r (now (input .exit)) (now (kept .exit))
-            (lent (now (octets .exit)) (now (lengths .exit)) (now (firsts .exit))) (now (rows .exit)) ⌝ }
-    {
-        let before = self.feed;
-        let last = self.receiver;
-        let audit = self.audit;
-        let pulled = before.pull(name, source, input, last, kept, octets, lengths, firsts);
-        let pull = pulled.pull;
-        let feed = pulled.feed;
-        let receiver = pulled.receiver;
-        let heeded = heed(name, table, rows, audit, pull, octets, lengths);
-        let next = heeded.audit;
-        State {
-            feed,
-            receiver,
-            audit: next,
-            going: heeded.going,
-            ended: heeded.ended,
-        }
-    }
-}
-
-// Takes what was told of the input: the rows beside the packets that a frame handed out, and at the input's end what is still to be said of
-// them.
-fn heed(
-    name: &[u8],
-    table: i32,
-    rows: &mut [u8],
-    audit: Audit,
-    pull: Pull,
-    octets: &[u8],
-    lengths: &[u16],
-) -> Heeded
-    ensures { λ r. ⌜ Heeds audit (now (rows .entry)) (now (octets .entry)) (now (lengths .entry)) r (now (rows .exit)) pull ⌝ }
-{
-    let next;
-    let mut going = true;
-    let mut ended = false;
-    match pull {
-        Pull::More | Pull::Opened => {
-            next = audit;
-        }
-        Pull::Answered(answer) => {
-            next = audit.frame(name, table, rows, answer, octets, lengths);
-        }
-        Pull::Bad | Pull::Cut | Pull::Failed => {
-            next = audit;
-            going = false;
-        }
-        Pull::End => {
-            next = audit.ended(name, table, rows);
-            going = false;
-            ended = true;
-        }
-    }
-    Heeded {
-        audit: next,
-        going,
-        ended,
-    }
-}
-
-// Writes what is to be told at the end.
-fn told(name: &[u8], state: State) {
-    let mut line = [0u8; audit_line::VERDICT];
-    let n = said(state, &mut line);
-    window::unwritten(name, &line, n);
-}
-
-// Puts what is to be told at the end into out, and answers how many octets that are: the verdict's line, if the input has ended and no read
-// of the table failed, which was told; else nothing.
-fn said(state: State, out: &mut [u8]) -> usize
-    requires { ⌜ longestVerdict ≤ length (now out) ⌝ }
-    ensures { λ r. ⌜ take r (now (out .exit)) ≡ saidBy state ⌝ }
+// Whether a verdict stands: the input has ended, and no read of the table failed.
+fn stands(state: State) -> bool
+    ensures { λ r. ⌜ r ≡ standing state ⌝ }
 {
     let audit = state.audit;
-    if !state.ended | audit.failed {
-        return 0;
+    let read = audit.read;
+    !state.going & state.ended & !read.failed()
+}
+
+// Writes the verdict's line, if one stands; what else there is to tell was told.
+fn told(name: &[u8], state: State, line: &mut [u8]) -> Written
+    requires { ⌜ longestVerdict ≤ length (now line) ⌝ }
+    ensures { λ r. ⌜ Tells state r (now (line .exit)) ⌝ }
+{
+    if !stands(state) {
+        return Written::none();
+    }
+    let audit = state.audit;
+    let verdict = audit.verdict;
+    say(name, line, verdict)
+}
+
+// Writes the line of a verdict.
+fn say(name: &[u8], line: &mut [u8], verdict: Verdict) -> Written
+    requires { ⌜ longestVerdict ≤ length (now line) ⌝ }
+    ensures { λ r. ⌜ take (r .size) (now (line .exit)) ≡ verdictLine verdict ⌝ }
+{
+    let n = audit_line::line(line, 0, verdict);
+    window::write(name, line, n)
+}
+
+// The exit status by where the second reading stopped, and what was written then.
+fn state_status(state: State, written: Written) -> i32
+    ensures { λ r. ⌜ Ends state (written .failed) r ⌝ }
+{
+    let audit = state.audit;
+    let read = state.read;
+    let last = audit.read;
+    if state.going {
+        return window::BROKEN;
+    }
+    if !state.ended {
+        if read.failed() {
+            return window::BROKEN;
+        }
+        return window::AGAINST;
+    }
+    if last.failed() {
+        return window::BROKEN;
+    }
+    if written.failed() {
+        return window::BROKEN;
     }
     let verdict = audit.verdict;
-    audit_line::line(out, 0, verdict)
+    match verdict {
+        Verdict::Passes => window::DONE,
+        Verdict::Faulty { reason: _, row: _ } => window::AGAINST,
+    }
 }
