@@ -1,4 +1,5 @@
-// The program: a listing on standard input, its summary on standard output.
+// The program: a listing on standard input, its summary on standard output. The linker calls ametzuko_summary main, and what it answers is the
+// exit status.
 use counting::State;
 use libc::STDIN_FILENO;
 use tally::counters;
@@ -8,13 +9,15 @@ mod telling;
 // The most different packets that are listed, by APID, type and subtype.
 const KEYS: usize = 1024;
 
-fn main() {
+#[no_mangle]
+pub extern "C" fn ametzuko_summary() -> i32 {
     let mut input = io::large_buffer();
     let mut counts = no_counts();
     let mut keys = [0u32; KEYS];
     let mut many = [0u64; KEYS];
     turns(&mut input, &mut counts, &mut keys, &mut many);
     telling::tell(&counts, &keys, &many, &mut input);
+    0
 }
 
 // Counters of which none has counted anything.
