@@ -1,5 +1,5 @@
 -- What comes of a call, by what the receiver tells.
-use Prim.Native.Nat.{ℕ, _+_, _-_, _≤_, _<_}
+use Prim.Native.Nat.{ℕ, _+_, _-_, _%_, _^_, _≤_, _<_}
 use mathlib.Core.Path.{_≡_, refl, sym, ap, _∙_, subst}
 use mathlib.Core.List.{List, [], _++_, append-nil}
 use mathlib.Core.Bool.{Bool, true, false}
@@ -17,10 +17,10 @@ use Rattle.receiver.specs.declared.Received.{Received}
 use Rattle.receiver.specs.declared.Event.{Event}
 use Rattle.receiver.specs.declared.Event.the-variants as event
 use Rattle.receiver.proofs.Events.{used-inside}
-use Rattle.window.specs.Window.{hand, Refills}
+use Rattle.window.specs.Window.{hand, unread, Refills}
 use Rattle.window.specs.declared.Refilled.{Refilled}
 use Rattle.window.proofs.Hands.{hand-behind, take-short}
-use Rattle.feed.specs.Pull.{handOf, atEnd, pulled, Tells, Pulls}
+use Rattle.feed.specs.Pull.{handOf, atEnd, pulled, Missed, Tells, Pulls}
 use Rattle.feed.specs.declared.Feed.{Feed}
 use Rattle.feed.specs.declared.Pull.{Pull}
 use Rattle.feed.specs.declared.Pull.the-variants as pull
@@ -46,21 +46,30 @@ module _ (s : Source) (failed : Bool) (came : ℕ) where
     unfolding atEnd pick
     read-end n c = simp (h, eq-eqb _ _ n, c)
 
-module _ (input : List ℕ) (from end : ℕ) (s : Source) {e : Event} where
+module _ (input : List ℕ) (from end passed : ℕ) (s : Source) {e : Event} where
   -- nothing was read
-  pub told : (d : Event) (passed : ℕ) → e ≡ d → Tells input from end s e (record { feed = record { at = from; end = end; passed = passed }; pull = pulled d s false 0 }) input
-  told d passed h = record { piece = []; failed = false; window = sym (append-nil _); tells = ap (λ (y : Event). pulled y s false 0) (sym h) }
+  pub told : (d : Event) {read : Refilled} → Missed d read → read ≡ unread → e ≡ d
+      → Tells input from end passed s e (record { feed = record { at = from; end = end; passed = passed }; pull = pulled d s false 0; read = read }) input
+  told d {read} m u h = record {
+    piece = [];
+    window = sym (append-nil _);
+    many = ap (λ (x : Refilled). x .came) (sym u);
+    only = subst (λ (y : Event). Missed y read) (sym h) m;
+    tells = ap (λ (x : Refilled). pulled d s (x .failed) (x .came)) (sym u) ∙ ap (λ (y : Event). pulled y s (read .failed) (read .came)) (sym h);
+    passed = refl;
+  }
 
   -- a read followed
-  pub told-missing : {n : ℕ} {input′ : List ℕ} {r : Refilled} {p : Pull} (passed : ℕ) → e ≡ event.Missing n → Refills input from end input′ r → p ≡ atEnd s (r .failed) (r .came)
-      → Tells input from end s e (record { feed = record { at = 0; end = r .have; passed = passed }; pull = p }) input′
-  told-missing {r = r} passed h g d = record {
+  pub told-missing : {n have : ℕ} {input′ : List ℕ} {r : Refilled} {p : Pull} → e ≡ event.Missing n → Refills input from end input′ r → have ≡ r .have
+      → p ≡ atEnd s (r .failed) (r .came)
+      → Tells input from end passed s e (record { feed = record { at = 0; end = have; passed = passed }; pull = p; read = r }) input′
+  told-missing {input′ = input′} {r = r} h g k d = record {
     piece = g .piece;
-    failed = r .failed;
-    window = g .window;
-    tells = d
-        ∙ ap (λ (k : ℕ). atEnd s (r .failed) k) (sym (g .many))
-        ∙ ap (λ (y : Event). pulled y s (r .failed) (length (g .piece))) (sym h);
+    window = ap (λ (n : ℕ). hand input′ 0 n) k ∙ g .window;
+    many = g .many;
+    only = subst (λ (y : Event). Missed y r) (sym h) tt;
+    tells = d ∙ ap (λ (y : Event). pulled y s (r .failed) (r .came)) (sym h);
+    passed = refl;
   }
 
 module _ (f : Feed) (input : List ℕ) (a : Receiver) (kept : List ℕ) {w : List ℕ} (same : w ≡ handOf f input) {l : Lent} {q : Received} {kept′ : List ℕ} {l′ : Lent}
@@ -72,14 +81,17 @@ module _ (f : Feed) (input : List ℕ) (a : Receiver) (kept : List ℕ) {w : Lis
   used-left =
       omega (arith, used-inside a kept (handOf f input) x, take-short (f .end - f .at) (drop (f .at) input), length-drop (f .at) input)
 
-  pub pulls : {input′ : List ℕ} {t : Told} → Tells input (f .at + q .used) (f .end) (a .source) (q .event) t input′
-      → Pulls f input a kept l (record { feed = t .feed; receiver = q .receiver; pull = t .pull }) input′ kept′ l′
-  pulls g = record {
+  pub pulls : {input′ : List ℕ} {t : Told} {passed : ℕ} → passed ≡ (f .passed + q .used) % 2 ^ 64
+      → Tells input (f .at + q .used) (f .end) passed (a .source) (q .event) t input′
+      → Pulls f input a kept l (record { feed = t .feed; receiver = q .receiver; pull = t .pull; read = t .read }) input′ kept′ l′
+  pulls e g = record {
     received = q;
     piece = g .piece;
-    failed = g .failed;
     calls = x;
     receiver = refl;
     window = g .window ∙ ap (λ (w : List ℕ). w ++ g .piece) (sym (hand-behind input (f .at) (f .end) (q .used)));
+    many = g .many;
+    only = g .only;
     tells = g .tells;
+    passed = g .passed ∙ e;
   }

@@ -1,5 +1,5 @@
 -- A call of a feed: a receiver goes on with the octets at hand, and a piece comes behind them if octets are missing.
-use Prim.Native.Nat.{ℕ}
+use Prim.Native.Nat.{ℕ, _+_, _%_, _^_}
 use mathlib.Core.Path.{_≡_}
 use mathlib.Core.List.{List, _++_}
 use mathlib.Core.Bool.{Bool}
@@ -14,7 +14,8 @@ use Rattle.receiver.specs.declared.Receiver.{Receiver}
 use Rattle.receiver.specs.declared.Received.{Received}
 use Rattle.receiver.specs.declared.Event.{Event}
 use Rattle.receiver.specs.declared.Event.the-variants as event
-use Rattle.window.specs.Window.{hand}
+use Rattle.window.specs.Window.{hand, unread}
+use Rattle.window.specs.declared.Refilled.{Refilled}
 use Rattle.feed.specs.declared.Feed.{Feed}
 use Rattle.feed.specs.declared.Pull.{Pull}
 use Rattle.feed.specs.declared.Pull.the-variants as pull
@@ -41,19 +42,34 @@ pulled event.Opened s failed came = pull.Opened
 pulled event.Nothing s failed came = pull.More
 pulled (event.Answered a) s failed came = pull.Answered a
 
--- What is told of an event by a source, and the piece that came behind the octets at hand from `from` up to end.
-pub record Tells (input : List ℕ) (from end : ℕ) (s : Source) (e : Event) (r : Told) (input′ : List ℕ) : Type 0 where
-  pub piece : List ℕ
-  pub failed : Bool
-  pub window : handOf (r .feed) input′ ≡ hand input from end ++ piece
-  pub tells : r .pull ≡ pulled e s failed (length piece)
+-- A read is made only if octets are missing.
+abbrev pub Missed : Event → Refilled → Type 0
+Missed (event.Missing n) r = Unit {0}
+Missed event.Bad r = r ≡ unread
+Missed event.Over r = r ≡ unread
+Missed event.Opened r = r ≡ unread
+Missed event.Nothing r = r ≡ unread
+Missed (event.Answered a) r = r ≡ unread
 
--- The contract of a call: what the receiver received of the octets at hand, the piece that came behind them, and whether the read failed.
+-- What is told of an event by a source: the read that was made, and the piece that it brought behind the octets at hand from `from` up to
+-- end; so many octets were used before them.
+pub record Tells (input : List ℕ) (from end behind : ℕ) (s : Source) (e : Event) (r : Told) (input′ : List ℕ) : Type 0 where
+  pub piece : List ℕ
+  pub window : handOf (r .feed) input′ ≡ hand input from end ++ piece
+  pub many : length piece ≡ r .read .came
+  pub only : Missed e (r .read)
+  pub tells : r .pull ≡ pulled e s (r .read .failed) (r .read .came)
+  pub passed : r .feed .passed ≡ behind
+
+-- The contract of a call: what the receiver received of the octets at hand, the read that was made, if octets were missing, and the piece
+-- that it brought behind them. All is fixed but what the read brought, and whether it failed.
 pub record Pulls (f : Feed) (input : List ℕ) (a : Receiver) (kept : List ℕ) (l : Lent) (r : Pulled) (input′ kept′ : List ℕ) (l′ : Lent) : Type 0 where
   pub received : Received
   pub piece : List ℕ
-  pub failed : Bool
   pub calls : Receives a kept (handOf f input) l received kept′ l′
   pub receiver : r .receiver ≡ received .receiver
   pub window : handOf (r .feed) input′ ≡ drop (received .used) (handOf f input) ++ piece
-  pub tells : r .pull ≡ pulled (received .event) (a .source) failed (length piece)
+  pub many : length piece ≡ r .read .came
+  pub only : Missed (received .event) (r .read)
+  pub tells : r .pull ≡ pulled (received .event) (a .source) (r .read .failed) (r .read .came)
+  pub passed : r .feed .passed ≡ (f .passed + received .used) % 2 ^ 64

@@ -7,6 +7,7 @@ use receiver::Receiver;
 use session::StepAnswer;
 use source::Source;
 use stretch::KEPT;
+use window::Refilled;
 
 // The octets of an input buffer from at up to end are read and not yet used; so many octets were used before them.
 pub struct Feed {
@@ -33,17 +34,19 @@ pub enum Pull {
     Failed,
 }
 
-// The next feed and receiver, and what is told.
+// The next feed and receiver, what is told, and the read that was made; none was made unless octets were missing.
 pub struct Pulled {
     pub feed: Feed,
     pub receiver: Receiver,
     pub pull: Pull,
+    pub read: Refilled,
 }
 
-// The next feed, and what is told.
+// The next feed, what is told, and the read that was made.
 struct Told {
     feed: Feed,
     pull: Pull,
+    read: Refilled,
 }
 
 impl Feed {
@@ -88,10 +91,12 @@ impl Feed {
         let told = tell(name, descriptor, input, from, end, passed, before, event);
         let feed = told.feed;
         let pull = told.pull;
+        let read = told.read;
         Pulled {
             feed,
             receiver: next,
             pull,
+            read,
         }
     }
 }
@@ -107,23 +112,24 @@ fn tell(
     before: Source,
     event: Event,
 ) -> Told
-    ensures { λ r. ⌜ Tells (now (input .entry)) from end before event r (now (input .exit)) ⌝ }
+    ensures { λ r. ⌜ Tells (now (input .entry)) from end passed before event r (now (input .exit)) ⌝ }
 {
     let mut feed = Feed {
         at: from,
         end,
         passed,
     };
+    let mut read = Refilled::none();
     let pull;
     match event {
         Event::Missing(_) => {
-            let refilled = window::refill(name, descriptor, input, from, end);
-            let have = refilled.have;
+            read = window::refill(name, descriptor, input, from, end);
+            let have = read.have();
             feed.at = 0;
             feed.end = have;
-            if refilled.failed {
+            if read.failed() {
                 pull = Pull::Failed;
-            } else if refilled.came != 0 {
+            } else if read.came() != 0 {
                 pull = Pull::More;
             } else if before.cut() {
                 faults::tell(name, passed, before, window::hand(input, 0, have));
@@ -149,5 +155,5 @@ fn tell(
             pull = Pull::Answered(answer);
         }
     }
-    Told { feed, pull }
+    Told { feed, pull, read }
 }

@@ -6,7 +6,7 @@ use mathlib.Core.Bool.{Bool, true, true≢false}
 use native.Mathlib.Omega.{arith}
 use native.Mathlib.Nat.{sub-zero, zero-sub, suc-sub-suc}
 use lib.ListN.{length, take, drop, take-append-drop, length-append, length-drop}
-use lib.Seq.{take-all, take-nil, take-take, drop-drop, length-take-le}
+use lib.Seq.{take-all, take-nil, take-take, drop-drop, length-take-le, take-append-seam}
 use Rattle.octets.specs.Parts.{part}
 use Rattle.octets.proofs.Placing.{part-some}
 use Rattle.window.specs.Window.{hand, Refills}
@@ -39,7 +39,7 @@ module _ (input : List ℕ) (at end : ℕ) where
 pub take-short : (k : ℕ) (l : List ℕ) → length (take k l) ≤ length l
 take-short k l = omega (arith, simp length-append at (ap length (take-append-drop k l)))
 
-take-own : (k : ℕ) (l : List ℕ) → take (length (take k l)) l ≡ take k l
+pub take-own : (k : ℕ) (l : List ℕ) → take (length (take k l)) l ≡ take k l
 take-own zero l = refl
 take-own (suc k) [] = refl
 take-own (suc k) (x ∷ l) = ap (λ (r : List ℕ). x ∷ r) (take-own k l)
@@ -85,3 +85,16 @@ module _ (input : List ℕ) (at end : ℕ) {l : List ℕ} (e : l ≡ hand input 
       inside = inside;
       room = λ f. omega (arith, ap length e);
     }
+
+-- what was at hand stays
+pub stays : {input : List ℕ} {at end : ℕ} {b : List ℕ} {r : Refilled} → Refills input at end b r → take (r .have - r .came) b ≡ hand input at end
+stays {input} {at} {end} {b} {r} g =
+    let h : List ℕ = hand input at end in
+    let w : take (r .have) b ≡ h ++ g .piece = ap (λ (k : ℕ). take k b) (sym (sub-zero (r .have))) ∙ g .window in
+    let n : r .have ≡ length h + r .came =
+    sym (length-take-le (r .have) b (g .inside)) ∙ ap length w ∙ length-append h (g .piece) ∙ ap (λ (k : ℕ). length h + k) (g .many) in
+    let m : r .have - r .came ≡ length h = omega (arith, n) in
+    ap (λ (k : ℕ). take k b) m
+    ∙ sym (take-take (length h) (r .have) b (omega (arith, n)))
+    ∙ ap (take (length h)) w
+    ∙ take-append-seam h (g .piece)

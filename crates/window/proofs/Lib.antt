@@ -1,3 +1,4 @@
 pub mod Hands
 pub mod Moves
 pub mod Unique
+pub mod Looping

@@ -1,1 +1,3 @@
 pub mod Window
+pub mod Turns
+pub mod Status

@@ -5,6 +5,7 @@ use mathlib.Core.List.{List, _++_}
 use mathlib.Core.Bool.{false}
 use lib.ListN.{length, take, drop}
 use Rattle.window.specs.declared.Refilled.{Refilled}
+use Rattle.window.specs.declared.Written.{Written}
 
 -- The octets of the input from at up to end, as far as they are there.
 abbrev pub hand : List ℕ → ℕ → ℕ → List ℕ
@@ -17,3 +18,11 @@ pub record Refills (input : List ℕ) (at end : ℕ) (input′ : List ℕ) (r : 
   pub many : length piece ≡ r .came
   pub inside : r .have ≤ length input′
   pub room : r .failed ≡ false → length (hand input at end) < length input′
+
+-- Nothing was read.
+abbrev pub unread : Refilled
+unread = record { have = 0; came = 0; failed = false }
+
+-- Nothing was written.
+abbrev pub unwritten : Written
+unwritten = record { size = 0; failed = false }

@@ -4,15 +4,92 @@
 ghost use Prim.Native.Nat.{_+_, _≤_};
 ghost use mathlib.Core.Path.{_≡_};
 ghost use lib.ListN.{length, take, drop};
-ghost use Rattle.window.specs.Window.{hand, Refills};
+ghost use Rattle.window.specs.Window.{hand, Refills, unread, unwritten};
 use libc::STDERR_FILENO;
 use libc::STDOUT_FILENO;
 
-// How many octets are at hand after a read, from the buffer's start on, how many of them came, and whether it failed.
+// A program's exit status: all that was asked was done.
+pub const DONE: i32 = 0;
+
+// The verdict went against the input: a bad recording, a table that does not pass, a wrong script or layout.
+pub const AGAINST: i32 = 1;
+
+// The program was used wrongly, or the system failed.
+pub const BROKEN: i32 = 2;
+
+// What a read left: how many octets are at hand, from the buffer's start on, how many of them came, and whether it failed. The fields are
+// private, so that only a read answers that octets came or that it failed.
 pub struct Refilled {
-    pub have: usize,
-    pub came: usize,
-    pub failed: bool,
+    have: usize,
+    came: usize,
+    failed: bool,
+}
+
+impl Refilled {
+    // Nothing was read.
+    pub fn none() -> Refilled
+        ensures { λ r. ⌜ r ≡ unread ⌝ }
+    {
+        Refilled {
+            have: 0,
+            came: 0,
+            failed: false,
+        }
+    }
+
+    // How many octets are at hand.
+    pub fn have(self) -> usize
+        ensures { λ r. ⌜ r ≡ self .have ⌝ }
+    {
+        self.have
+    }
+
+    // How many octets came.
+    pub fn came(self) -> usize
+        ensures { λ r. ⌜ r ≡ self .came ⌝ }
+    {
+        self.came
+    }
+
+    // Whether the read failed.
+    pub fn failed(self) -> bool
+        ensures { λ r. ⌜ r ≡ self .failed ⌝ }
+    {
+        self.failed
+    }
+}
+
+// How many of an output's first octets were handed to a write, and whether it failed. The fields are private, so that only a write answers
+// that octets were handed on or that it failed.
+pub struct Written {
+    size: usize,
+    failed: bool,
+}
+
+impl Written {
+    // Nothing was written.
+    pub fn none() -> Written
+        ensures { λ r. ⌜ r ≡ unwritten ⌝ }
+    {
+        Written {
+            size: 0,
+            failed: false,
+        }
+    }
+
+    // How many octets were handed on.
+    pub fn size(self) -> usize
+        ensures { λ r. ⌜ r ≡ self .size ⌝ }
+    {
+        self.size
+    }
+
+    // Whether the write failed.
+    pub fn failed(self) -> bool
+        ensures { λ r. ⌜ r ≡ self .failed ⌝ }
+    {
+        self.failed
+    }
 }
 
 // How many octets a read brought, and whether it failed.
@@ -38,13 +115,14 @@ pub fn hand(input: &[u8], at: usize, end: usize) -> &[u8]
 }
 
 // Moves the octets at hand to the buffer's start and reads behind them once. What fails is told on standard error, behind the program's
-// name; where the buffer has no room nothing is read, and it fails.
+// name; where the buffer has no room nothing is read, and that is told as a failure.
 pub fn refill(name: &[u8], source: i32, input: &mut [u8], at: usize, end: usize) -> Refilled
     ensures { λ r. ⌜ Refills (now (input .entry)) at end (now (input .exit)) r ⌝ }
 {
     let have = hand(input, at, end).len();
     shift(input, at, have);
     if have == input.len() {
+        tell_full(name);
         return Refilled {
             have,
             came: 0,
@@ -60,14 +138,21 @@ pub fn refill(name: &[u8], source: i32, input: &mut [u8], at: usize, end: usize)
     }
 }
 
-// Writes the first n octets of the output, and answers how many are still unwritten: none, or n if a write failed, which is told.
-pub fn unwritten(name: &[u8], out: &[u8], n: usize) -> usize {
-    if io::write_all(STDOUT_FILENO, hand(out, 0, n)) {
-        return 0;
+// Hands the first n octets of the output to the system. What fails is told on standard error, behind the program's name.
+pub fn write(name: &[u8], out: &[u8], n: usize) -> Written
+    ensures { λ r. ⌜ r .size ≡ length (hand (now (out .entry)) 0 n) ⌝ }
+{
+    let octets = hand(out, 0, n);
+    let size = octets.len();
+    let well = io::write_all(STDOUT_FILENO, octets);
+    if !well {
+        io::write_all(STDERR_FILENO, name);
+        os::fail(b": standard output");
     }
-    io::write_all(STDERR_FILENO, name);
-    os::fail(b": standard output");
-    n
+    Written {
+        size,
+        failed: !well,
+    }
 }
 
 // Moves the n octets from index at on to the start.
@@ -96,6 +181,15 @@ fn read_some(name: &[u8], source: i32, input: &mut [u8], from: usize) -> Got
         came,
         failed: got < 0,
     }
+}
+
+// Tells on standard error that there is no room for a read.
+fn tell_full(name: &[u8]) {
+    io::write_all(STDERR_FILENO, name);
+    io::write_all(
+        STDERR_FILENO,
+        b": standard input: no room to read more of it\n",
+    );
 }
 
 // Tells a read that failed on standard error.

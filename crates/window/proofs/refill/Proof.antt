@@ -12,7 +12,8 @@ shift-requires c κs = let a = c .before .before .before .before .before .args i
 
 returns : tie.Need-returns
 returns c =
-    refills-full _ _ _ (c .before .before .before .before .before .hand .ensures) _ (c .before .before .before .shift .ensures) (c .if1 .taken)
+    let h = c .before .before .before .before .before .before .hand in
+    refills-full _ _ _ (h .ensures) _ (c .before .before .before .before .shift .ensures) (c .before .if1 .taken)
 
 read-some-requires : tie.Need-read-some-requires
 read-some-requires c κs =
@@ -35,5 +36,5 @@ pub refill-spec : {M : Type 1} → statement M
 refill-spec =
     tie.close
     (tie.spec
-    (λ c κs. search needs) shift-requires (λ c. search needs) returns read-some-requires add-t15 (λ c. search needs)
-    returns-2)
+    (λ c κs. search needs) shift-requires (λ c. search needs) (λ c. search needs) returns read-some-requires add-t15
+    (λ c. search needs) returns-2)

@@ -13,8 +13,12 @@ add-from c =
 
 returns : tie.Need-returns
 returns c =
-    let a = c .before .before .before .before .before .before .before .before .before .before .before .before .before .before .before .before .before .before .before .before .before .before .before .before .before .args in
-    pulls (a .self) (now (a .input)) (a .receiver) (now (a .kept)) (c .before .before .before .before .before .before .before .before .before .before .before .before .before .before .before .before .before .before .hand .ensures) (c .before .before .before .before .before .before .before .before .before .before .before .before .before .next .ensures) (c .before .before .before .tell .ensures)
+    let t = c .before .before .before .before in
+    let n = t .before .before .before .before .before .before .before .before .before .before in
+    let h = n .before .before .before .before .before in
+    let a = h .before .before .before .before .before .before .before .args in
+    pulls (a .self) (now (a .input)) (a .receiver) (now (a .kept)) (h .hand .ensures) (n .next .ensures)
+    (t .before .before .wrapping-add-u64 .ensures) (t .tell .ensures)
 
 pub pull-spec : {M : Type 1} → statement M
 pull-spec =
