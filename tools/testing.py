@@ -189,9 +189,9 @@ def frames_of(octets):
 
 
 def kiss(frames, both=False):
-    """Frames as KISS: without their check, behind the type octet, with escapes."""
+    """Frames as KISS: 0xC0, then each without its check, behind the type octet, with escapes, and 0xC0; with both, 0xC0 before each too."""
     blocks = [b"\0" + f[:-2].replace(b"\xdb", b"\xdb\xdd").replace(b"\xc0", b"\xdb\xdc") for f in frames]
-    return b"".join(b"\xc0" + block + b"\xc0" for block in blocks) if both else b"\xc0" + b"".join(block + b"\xc0" for block in blocks)
+    return b"\xc0" + b"".join((b"\xc0" if both else b"") + block + b"\xc0" for block in blocks)
 
 
 BITS = [f"{n:08b}"[::-1] for n in range(256)]

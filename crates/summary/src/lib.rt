@@ -3,11 +3,15 @@
 use counting::State;
 use libc::STDIN_FILENO;
 use tally::counters;
+use window::Refilled;
 
 mod telling;
 
 // The most different packets that are listed, by APID, type and subtype.
 const KEYS: usize = 1024;
+
+// The most turns: each but the last reads an octet or counts a line.
+const TURNS: u64 = 18446744073709551615;
 
 #[no_mangle]
 pub extern "C" fn ametzuko_summary() -> i32 {
@@ -15,9 +19,16 @@ pub extern "C" fn ametzuko_summary() -> i32 {
     let mut counts = no_counts();
     let mut keys = [0u32; KEYS];
     let mut many = [0u64; KEYS];
-    turns(&mut input, &mut counts, &mut keys, &mut many);
-    telling::tell(&counts, &keys, &many, &mut input);
-    0
+    let state = turns(&mut input, &mut counts, &mut keys, &mut many);
+    let read = state.read;
+    if state.going | read.failed() {
+        return window::BROKEN;
+    }
+    let written = telling::tell(&counts, &keys, &many, &mut input);
+    if written.failed() {
+        return window::BROKEN;
+    }
+    window::DONE
 }
 
 // Counters of which none has counted anything.
@@ -26,19 +37,21 @@ fn no_counts() -> [u64; counters::COUNTERS] {
 }
 
 // The whole input. It ends with the input or a failed read; after 2^64 - 1 turns it would end too.
-fn turns(input: &mut [u8], counts: &mut [u64], keys: &mut [u32], many: &mut [u64]) {
+fn turns(input: &mut [u8], counts: &mut [u64], keys: &mut [u32], many: &mut [u64]) -> State {
     let mut state = State {
         at: 0,
         end: 0,
         within: false,
         going: true,
+        read: Refilled::none(),
     };
-    let mut left: u64 = 18446744073709551615;
-    while left > 0 {
-        if !state.going {
-            return;
+    let mut made: u64 = 0;
+    while state.going {
+        if made == TURNS {
+            return state;
         }
         state = counting::turn(b"summary", STDIN_FILENO, input, counts, keys, many, state);
-        left -= 1;
+        made += 1;
     }
+    state
 }
