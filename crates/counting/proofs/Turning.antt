@@ -1,7 +1,7 @@
 -- What a turn keeps of the counts that are left at last.
 use Prim.Native.Nat.{ℕ, suc, _+_, _-_, _≤_, _<_}
 use native.Mathlib.Omega.{arith}
-use mathlib.Core.Path.{_≡_, refl, sym, ap, _∙_}
+use mathlib.Core.Path.{_≡_, refl, sym, ap, subst, _∙_}
 use mathlib.Core.Bool.{Bool, true, false, true≢false, not, _||_, _&&_}
 use mathlib.Core.List.{List, [], _++_}
 use lib.Dec.{eqb, ltb}
@@ -37,7 +37,7 @@ module _ (s : State) (input : List ℕ) {w : List ℕ} (same : w ≡ handOf s in
 
   pub turned-line : (t : Tally) {b : Bool} {told : Tells} {t′ : Tally} → b ≡ ltb (feedAt w) (length w) → b ≡ true → told ≡ pick (ltb 80 (read .end)) Other (read .tells)
       → t′ ≡ pick (not (s .within)) (counted told t) t
-      → Turned s input t (record { at = s .at + read .end; end = s .end; within = false; going = true }) input t′
+      → Turned s input t (record { at = s .at + read .end; end = s .end; within = false; going = true; read = s .read }) input t′
   turned-line t {t′ = t′} f g k m =
       let fed : feedAt w < length w = ltb-true (feedAt w) (length w) (sym f ∙ g) in
       let long : read .end ≡ suc (feedAt w) = length-read ∙ line-fed w fed in
@@ -77,19 +77,28 @@ module _ (s : State) (input : List ℕ) (t : Tally) {n : ℕ} (e : n ≡ length 
   abbrev counting : Bool → Bool
   counting over = (long || (over && not (eqb n 0))) && not (s .within)
 
-  pub more-turned : {at : ℕ} {input′ : List ℕ} {r : Refilled} {t′ : Tally} → at ≡ pick long (s .end) (s .at) → Refills input at (s .end) input′ r
-      → t′ ≡ pick (counting (eqb (r .came) 0)) (counted Other t) t
-      → Turned s input t (record { at = 0; end = r .have; within = long; going = not (eqb (r .came) 0) }) input′ t′
-  more-turned {at} {input′} {r} {t′} f w g = record {
-    piece = w .piece;
-    goes = λ yes behind.
-        let o : eqb (r .came) 0 ≡ false = not-true (eqb (r .came) 0) yes in
-        ap (λ (h : List ℕ). countedText long (h ++ behind) t′) (w .window ∙ ap (λ (h : List ℕ). h ++ w .piece) (kept-hand input (s .at) (s .end) long f))
-        ∙ ap (countedText long ((pick long [] (handOf s input) ++ w .piece) ++ behind)) (g ∙ ap (λ (b : Bool). pick (counting b) (counted Other t) t) o)
-        ∙ more-counted (handOf s input) n e l t (ltb 80 n) (s .within) (w .piece) behind (not (eqb n 0)) refl;
-    ends = λ no.
-        let o : eqb (r .came) 0 ≡ true = not-false (eqb (r .came) 0) no in (
-          none (w .piece) (w .many ∙ eqb-true (r .came) 0 o),
-          g ∙ ap (λ (b : Bool). pick (counting b) (counted Other t) t) o ∙ last-counted (handOf s input) n e l t (ltb 80 n) (s .within) refl,
-        );
-  }
+  module _ {at : ℕ} {input′ : List ℕ} {r : Refilled} {t′ : Tally} (f : at ≡ pick long (s .end) (s .at)) (w : Refills input at (s .end) input′ r) where
+    turned-by : t′ ≡ pick (counting (eqb (r .came) 0)) (counted Other t) t
+        → Turned s input t (record { at = 0; end = r .have; within = long; going = not (eqb (r .came) 0); read = r }) input′ t′
+    turned-by g = record {
+      piece = w .piece;
+      goes = λ yes behind.
+          let o : eqb (r .came) 0 ≡ false = not-true (eqb (r .came) 0) yes in
+          ap (λ (h : List ℕ). countedText long (h ++ behind) t′) (w .window ∙ ap (λ (h : List ℕ). h ++ w .piece) (kept-hand input (s .at) (s .end) long f))
+          ∙ ap (countedText long ((pick long [] (handOf s input) ++ w .piece) ++ behind)) (g ∙ ap (λ (b : Bool). pick (counting b) (counted Other t) t) o)
+          ∙ more-counted (handOf s input) n e l t (ltb 80 n) (s .within) (w .piece) behind (not (eqb n 0)) refl;
+      ends = λ no.
+          let o : eqb (r .came) 0 ≡ true = not-false (eqb (r .came) 0) no in (
+            none (w .piece) (w .many ∙ eqb-true (r .came) 0 o),
+            g ∙ ap (λ (b : Bool). pick (counting b) (counted Other t) t) o ∙ last-counted (handOf s input) n e l t (ltb 80 n) (s .within) refl,
+            eqb-true (r .came) 0 o,
+          );
+    }
+
+    -- by what the read is asked
+    pub more-turned : {came have : ℕ} → came ≡ r .came → have ≡ r .have → t′ ≡ pick (counting (eqb came 0)) (counted Other t) t
+        → Turned s input t (record { at = 0; end = have; within = long; going = not (eqb came 0); read = r }) input′ t′
+    more-turned {came} {have} c h g =
+        subst (λ (y : ℕ). Turned s input t (record { at = 0; end = have; within = long; going = not (eqb y 0); read = r }) input′ t′) (sym c)
+        (subst (λ (x : ℕ). Turned s input t (record { at = 0; end = x; within = long; going = not (eqb (r .came) 0); read = r }) input′ t′) (sym h)
+        (turned-by (g ∙ ap (λ (y : ℕ). pick (counting (eqb y 0)) (counted Other t) t) c)))

@@ -17,8 +17,8 @@ abbrev pub atLast : State → List ℕ → Tally → List ℕ → Tally
 atLast s input t behind = countedText (s .within) (handOf s input ++ behind) t
 
 -- A piece was read. Whatever comes behind it, the same counts are left at last as before the turn; a turn that ends the run had no more to
--- count, and left them.
+-- count, left them, and its read brought nothing.
 pub record Turned (s : State) (input : List ℕ) (t : Tally) (r : State) (input′ : List ℕ) (t′ : Tally) : Type 0 where
   pub piece : List ℕ
   pub goes : r .going ≡ true → (behind : List ℕ) → atLast r input′ t′ behind ≡ atLast s input t (piece ++ behind)
-  pub ends : r .going ≡ false → (piece ≡ []) × (t′ ≡ atLast s input t [])
+  pub ends : r .going ≡ false → (piece ≡ []) × (t′ ≡ atLast s input t []) × (r .read .came ≡ 0)

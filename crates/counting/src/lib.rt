@@ -11,16 +11,19 @@ ghost use Rattle.counting.specs.Lines.{feedAt};
 ghost use Rattle.counting.specs.Turns.{handOf, Turned};
 use tally::Tells;
 use tally::counters;
+use window::Refilled;
 
 // The longest line of a listing.
 const LINE: usize = 80;
 
-// Where a run stands: the unused octets from at up to end, whether they go on a line too long, counted already, whether the run goes on.
+// Where a run stands: the unused octets from at up to end, whether they go on a line too long, counted already, whether the run goes on, and
+// what the last read answered.
 pub struct State {
     pub at: usize,
     pub end: usize,
     pub within: bool,
     pub going: bool,
+    pub read: Refilled,
 }
 
 // One turn: the line at hand, or a further read if it is not whole. What fails is told on standard error, behind the program's name.
@@ -88,15 +91,16 @@ fn more(
     let within = (LINE < n) | state.within;
     let end = state.end;
     let at = kept(within, state.at, end);
-    let refilled = window::refill(name, source, input, at, end);
-    let over = refilled.came == 0;
+    let read = window::refill(name, source, input, at, end);
+    let over = read.came() == 0;
     let counting = (within | (over & (n != 0))) & !state.within;
     count_if(counting, Tells::Other, counts, keys, many);
     State {
         at: 0,
-        end: refilled.have,
+        end: read.have(),
         within,
         going: !over,
+        read,
     }
 }
 

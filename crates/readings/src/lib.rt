@@ -1,12 +1,16 @@
 // The program: the layouts in the file of its first word, and what comes on standard input, a recording or what its further words name; its
-// readings on standard output.
+// readings on standard output. The linker calls this function main, and what it answers is the exit status.
 use libc::STDIN_FILENO;
 
-fn main() {
+// The exit status of wrong words.
+const BROKEN: i32 = 2;
+
+#[no_mangle]
+pub extern "C" fn ametzuko_readings() -> i32 {
     let mut path = io::buffer();
     let n = os::arg(1, &mut path);
     if inputs::refused(b"readings", 2) {
-        return;
+        return BROKEN;
     }
     reporter::run(
         b"readings",
@@ -14,4 +18,5 @@ fn main() {
         STDIN_FILENO,
         inputs::by_words(2),
     );
+    0
 }

@@ -1,10 +1,14 @@
 // The program: a training table, the file of its first word, against the input that its further words name, on standard input; the verdict on
-// standard output.
+// standard output. The linker calls this function main, and what it answers is the exit status.
 use libc::STDIN_FILENO;
 
-fn main() {
+// The exit status of wrong words.
+const BROKEN: i32 = 2;
+
+#[no_mangle]
+pub extern "C" fn ametzuko_audit() -> i32 {
     if inputs::refused(b"audit", 2) {
-        return;
+        return BROKEN;
     }
     let mut path = io::buffer();
     let n = os::arg(1, &mut path);
@@ -14,4 +18,5 @@ fn main() {
         STDIN_FILENO,
         inputs::by_words(2),
     );
+    0
 }
