@@ -2,13 +2,10 @@
 // standard output. The linker calls this function main, and what it answers is the exit status.
 use libc::STDIN_FILENO;
 
-// The exit status of wrong words.
-const BROKEN: i32 = 2;
-
 #[no_mangle]
 pub extern "C" fn ametzuko_audit() -> i32 {
     if inputs::refused(b"audit", 2) {
-        return BROKEN;
+        return window::BROKEN;
     }
     let mut path = io::buffer();
     let n = os::arg(1, &mut path);
@@ -17,6 +14,5 @@ pub extern "C" fn ametzuko_audit() -> i32 {
         octets::part(&path, 0, n),
         STDIN_FILENO,
         inputs::by_words(2),
-    );
-    0
+    )
 }

@@ -1,19 +1,16 @@
 // The program: a stream on standard input, of the kind and with the t that its words tell, its listing on standard output; the linker calls
-// this function main. decode's twin for streams: a program that lists recordings alone is the faster for it.
+// this function main, and what it answers is the exit status. decode's twin for streams: a program that lists recordings alone is the faster
+// for it.
 use libc::STDIN_FILENO;
-
-// The exit status of wrong words.
-const BROKEN: i32 = 2;
 
 #[no_mangle]
 pub extern "C" fn ametzuko_decode_stream() -> i32 {
     if os::arg_count() < 2 {
         inputs::tell(b"decode");
-        return BROKEN;
+        return window::BROKEN;
     }
     if inputs::refused(b"decode", 1) {
-        return BROKEN;
+        return window::BROKEN;
     }
-    lister::run_stream(b"decode", STDIN_FILENO, inputs::by_words(1));
-    0
+    lister::run_stream(b"decode", STDIN_FILENO, inputs::by_words(1))
 }

@@ -2,21 +2,17 @@
 // readings on standard output. The linker calls this function main, and what it answers is the exit status.
 use libc::STDIN_FILENO;
 
-// The exit status of wrong words.
-const BROKEN: i32 = 2;
-
 #[no_mangle]
 pub extern "C" fn ametzuko_readings() -> i32 {
     let mut path = io::buffer();
     let n = os::arg(1, &mut path);
     if inputs::refused(b"readings", 2) {
-        return BROKEN;
+        return window::BROKEN;
     }
     reporter::run(
         b"readings",
         octets::part(&path, 0, n),
         STDIN_FILENO,
         inputs::by_words(2),
-    );
-    0
+    )
 }
