@@ -8,11 +8,16 @@ ghost use Rattle.script_steps.specs.Step.{lent};
 ghost use Rattle.script_recording.specs.Recording.{recordingOf};
 ghost use Rattle.window.specs.Window.{hand};
 ghost use Rattle.script.specs.Turn.{LineEnds, turned, turning, isFault, freshPlace, run, running};
+ghost use Rattle.script.specs.Filled.{Fills, Looped};
 ghost use Rattle.script.specs.Ended.{Ends, statusOf};
 use libc::STDERR_FILENO;
 use script_settings::Fault;
 use script_settings::State;
+use window::Refilled;
 use window::Written;
+
+// The most reads of a script.
+const READS: u64 = 18446744073709551615;
 
 // The most frames that a script makes.
 const FRAMES: usize = 4096;
@@ -249,33 +254,89 @@ fn lines(
     let state = place.state;
     let common = state.common;
     let row = state.made;
-    let written = hand_on(name, common.t, made, script_steps::front(frames, row.count), out);
+    let written = hand_on(
+        name,
+        common.t,
+        made,
+        script_steps::front(frames, row.count),
+        out,
+    );
     Ended {
         written,
         faulty: false,
     }
 }
 
+// How many octets of the script are at hand, the last read, and whether more may come.
+struct Filling {
+    have: usize,
+    read: Refilled,
+    going: bool,
+}
+
+// Where the reads stopped, and after how many.
+struct Filled {
+    state: Filling,
+    made: u64,
+}
+
+// Reads more of the script behind the octets at hand; where there is no room none is read.
+fn more(name: &[u8], source: i32, script: &mut [u8], before: Filling) -> Filling
+    ensures { λ r. ⌜ Fills before (now (script .entry)) r (now (script .exit)) ⌝ }
+{
+    let have = before.have;
+    if script.len() <= have {
+        return Filling {
+            have,
+            read: Refilled::none(),
+            going: false,
+        };
+    }
+    let read = window::refill(name, source, script, 0, have);
+    Filling {
+        have: read.have(),
+        read,
+        going: read.came() != 0,
+    }
+}
+
+// Reads the script to its end, or as far as there is room. A read that fails is told; after 2^64 - 1 reads it would end too.
+fn fill(name: &[u8], source: i32, script: &mut [u8]) -> Filled
+    ensures { λ r. ⌜ Looped (now (script .entry)) r (now (script .exit)) ⌝ }
+{
+    let mut state = Filling {
+        have: 0,
+        read: Refilled::none(),
+        going: true,
+    };
+    let mut made: u64 = 0;
+    while state.going {
+        if made == READS {
+            return Filled { state, made };
+        }
+        state = more(name, source, script, state);
+        made += 1;
+    }
+    Filled { state, made }
+}
+
 // Makes the recording of the script that comes by the descriptor source, on standard output, and answers the exit status. What fails is told
 // on standard error, behind the program's name.
 pub fn run(name: &[u8], source: i32) -> i32 {
     let mut script = io::large_buffer();
-    let n = io::read_full(source, &mut script);
-    if script.len() <= n {
+    let filled = fill(name, source, &mut script);
+    let state = filled.state;
+    let read = state.read;
+    if read.failed() {
+        return window::BROKEN;
+    }
+    let have = state.have;
+    if script.len() <= have {
         io::write_all(STDERR_FILENO, name);
         io::write_all(STDERR_FILENO, b": the script has above 65,535 octets\n");
         return window::AGAINST;
     }
-    let last = window::refill(name, source, &mut script, 0, n);
-    if last.failed() {
-        return window::BROKEN;
-    }
-    if last.came() != 0 {
-        io::write_all(STDERR_FILENO, name);
-        io::write_all(STDERR_FILENO, b": standard input: a read failed\n");
-        return window::BROKEN;
-    }
-    made_of(name, octets::part(&script, 0, n))
+    made_of(name, window::hand(&script, 0, have))
 }
 
 // The same with the script's octets.

@@ -99,9 +99,9 @@ dropped made from n h =
     drop-drop (n % lostMark) from made
     ∙ picks (λ (x : ℕ). drop (from + n % lostMark) made ≡ drop x made) (ltb (m - from) (n % lostMark)) m (from + n % lostMark)
     (λ e.
-      let l : m ≤ from + n % lostMark = omega (arith, ltb-true (m - from) (n % lostMark) e, h) in
-      let k : m ≤ m = omega arith in
-      drop-of-length-le made l ∙ sym (drop-of-length-le made k))
+    let l : m ≤ from + n % lostMark = omega (arith, ltb-true (m - from) (n % lostMark) e, h) in
+    let k : m ≤ m = omega arith in
+    drop-of-length-le made l ∙ sym (drop-of-length-le made k))
     (λ _. refl)
 
 small : (n : ℕ) → n < lostMark → n % lostMark ≡ n
@@ -118,12 +118,12 @@ one-room made from n h =
     let k : ℕ = n % lostMark in
     picks (λ (x : List ℕ). length x + (m - pick (ltb (m - from) k) m (from + k)) ≤ 2 + (m - from)) (ltb n lostMark) (wordOf n ++ part rest 0 n) []
     (λ a.
-      let s : n % lostMark ≡ n = small n (ltb-true n lostMark a) in
-      picks (λ (x : ℕ). length (wordOf n ++ part rest 0 n) + (m - x) ≤ 2 + (m - from)) (ltb (m - from) k) m (from + k)
-      (λ e. let l : length (part rest 0 n) ≡ 0 = part-none-many rest n (omega (arith, ltb-true (m - from) k e, d, s)) in omega (arith, l))
-      (λ e.
-        let f : k ≤ m - from = ltb-false (m - from) k e in
-        let l : length (part rest 0 n) ≡ n = part-many rest n (omega (arith, f, d, s)) in omega (arith, l, f, s)))
+    let s : n % lostMark ≡ n = small n (ltb-true n lostMark a) in
+    picks (λ (x : ℕ). length (wordOf n ++ part rest 0 n) + (m - x) ≤ 2 + (m - from)) (ltb (m - from) k) m (from + k)
+    (λ e. let l : length (part rest 0 n) ≡ 0 = part-none-many rest n (omega (arith, ltb-true (m - from) k e, d, s)) in omega (arith, l))
+    (λ e.
+    let f : k ≤ m - from = ltb-false (m - from) k e in
+    let l : length (part rest 0 n) ≡ n = part-many rest n (omega (arith, f, d, s)) in omega (arith, l, f, s)))
     (λ _. picks (λ (x : ℕ). length {A = ℕ} [] + (m - x) ≤ 2 + (m - from)) (ltb (m - from) k) m (from + k) (λ _. omega arith) (λ _. omega arith))
 
 -- ---- all frames: i of them stand up to index `to` of the output, as front, and the octets of the others are those made from index `from` on
