@@ -39,7 +39,7 @@ module _ (l : Layouts) (s₀ : Standing) (input₀ kept₀ : List ℕ) (t₀ : L
 module _ (l : Layouts) (a : Receiver) (s : State) {s₀ : Standing}
     (e : s₀ ≡ begins a s) {input out counts : List ℕ} {made : ℕ} {r : Standing}
     {input′ kept′ out′ counts′ : List ℕ} {t′ : Lent}
-        (g : Turning l s₀ input noneKept roomy out counts made r input′ kept′ t′ out′ counts′) where
+    (g : Turning l s₀ input noneKept roomy out counts made r input′ kept′ t′ out′ counts′) where
   begun : Turning l (begins a s) input noneKept roomy out counts made r input′ kept′ t′ out′ counts′
   begun = subst (λ (x : Standing). Turning l x input noneKept roomy out counts made r input′ kept′ t′ out′ counts′) e g
 
@@ -53,7 +53,7 @@ module _ (l : Layouts) (a : Receiver) (s : State) {s₀ : Standing}
 pub reported : {l : Layouts} {a : Receiver} {input out headed counts : List ℕ} {begun first last : State} {r : Standing} {made : ℕ}
     {input′ out′ counts′ : List ℕ}
     → Begins out headed begun → length headed ≡ length out → Writes headed begun first
-        → Looped l a first input headed counts r made input′ out′ counts′
+    → Looped l a first input headed counts r made input′ out′ counts′
     → Writes out′ (r .state) last → Reported l a input out counts (record { standing = withState r last; made = made }) input′ out′ counts′
 reported {headed = headed} {begun = begun} {first = first} {r = r} b e w m x =
     record { headed = headed; begun = begun; begins = b; long = e; first = first; starts = w; last = r .state; looped = m; ends = x }

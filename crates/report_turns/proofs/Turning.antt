@@ -36,7 +36,7 @@ standing f a s r b g = record { feed = f; receiver = a; state = s; read = r; bad
 pub turned : (l : Layouts) {b : Standing} {input kept input′ kept′ out out′ counts counts′ w : List ℕ} {t t′ : Lent} {q : Pulled}
     {s₁ s₂ : State} {bad g : Bool}
     → Pulls (b .feed) input (b .receiver) kept t q input′ kept′ t′ → Heeds l (q .pull) t′ out counts (b .state) out′ counts′ s₁
-        → length out′ ≡ length out
+    → length out′ ≡ length out
     → w ≡ handOf (q .feed) input′ → Clears (length w) out′ s₁ s₂ → bad ≡ isBad (q .pull) → g ≡ goesOn (q .pull) (failedIn (s₂ .output))
     → Turned l b input kept t out counts (standing (q .feed) (q .receiver) s₂ (q .read) bad g) input′ kept′ t′ out′ counts′
 turned l {input′ = input′} {out′ = out′} {q = q} {s₁} {s₂} p h same e c d k = record {
@@ -80,7 +80,7 @@ unfolding atEnd
 same-hands s failed n (event.Missing m) =
     picks (λ (p : Pull). pullHands p ≡ 0) failed _ _ (λ _. refl)
     (λ _. picks (λ (p : Pull). pullHands p ≡ 0) (eqb n 0) _ _
-        (λ _. picks (λ (p : Pull). pullHands p ≡ 0) (cutAt s) _ _ (λ _. refl) (λ _. refl)) (λ _. refl))
+    (λ _. picks (λ (p : Pull). pullHands p ≡ 0) (cutAt s) _ _ (λ _. refl) (λ _. refl)) (λ _. refl))
 same-hands s failed n event.Bad = refl
 same-hands s failed n event.Over = refl
 same-hands s failed n event.Opened = refl
@@ -88,17 +88,17 @@ same-hands s failed n event.Nothing = refl
 same-hands s failed n (event.Answered a) = refl
 
 module _ {l : Layouts} {a₀ : Receiver} {kept₀ counts₀ : List ℕ} {packets₀ : ℕ} {t₀ : Lent} {octets : List ℕ} {kept : List ℕ} {t : Lent}
-    where
-  run-as : {text text′ counts counts′ : List ℕ} {packets packets′ : ℕ} {a a′ : Receiver} {w w′ : List ℕ}
-      → text ≡ text′ → counts ≡ counts′ → packets ≡ packets′ → a ≡ a′ → w ≡ w′
-      → Run l a₀ kept₀ counts₀ packets₀ t₀ octets text counts packets a kept w t
-          → Run l a₀ kept₀ counts₀ packets₀ t₀ octets text′ counts′ packets′ a′ kept w′ t
-  run-as {text} {text′} {counts} {counts′} {packets} {packets′} {a} {a′} {w} {w′} p q m n o r =
-      subst (λ (x : List ℕ). Run l a₀ kept₀ counts₀ packets₀ t₀ octets text′ counts′ packets′ a′ kept x t) o
-      (subst (λ (x : Receiver). Run l a₀ kept₀ counts₀ packets₀ t₀ octets text′ counts′ packets′ x kept w t) n
-      (subst (λ (x : ℕ). Run l a₀ kept₀ counts₀ packets₀ t₀ octets text′ counts′ x a kept w t) m
-      (subst (λ (x : List ℕ). Run l a₀ kept₀ counts₀ packets₀ t₀ octets text′ x packets a kept w t) q
-      (subst (λ (x : List ℕ). Run l a₀ kept₀ counts₀ packets₀ t₀ octets x counts packets a kept w t) p r))))
+  where
+    run-as : {text text′ counts counts′ : List ℕ} {packets packets′ : ℕ} {a a′ : Receiver} {w w′ : List ℕ}
+        → text ≡ text′ → counts ≡ counts′ → packets ≡ packets′ → a ≡ a′ → w ≡ w′
+        → Run l a₀ kept₀ counts₀ packets₀ t₀ octets text counts packets a kept w t
+        → Run l a₀ kept₀ counts₀ packets₀ t₀ octets text′ counts′ packets′ a′ kept w′ t
+    run-as {text} {text′} {counts} {counts′} {packets} {packets′} {a} {a′} {w} {w′} p q m n o r =
+        subst (λ (x : List ℕ). Run l a₀ kept₀ counts₀ packets₀ t₀ octets text′ counts′ packets′ a′ kept x t) o
+        (subst (λ (x : Receiver). Run l a₀ kept₀ counts₀ packets₀ t₀ octets text′ counts′ packets′ x kept w t) n
+        (subst (λ (x : ℕ). Run l a₀ kept₀ counts₀ packets₀ t₀ octets text′ counts′ x a kept w t) m
+        (subst (λ (x : List ℕ). Run l a₀ kept₀ counts₀ packets₀ t₀ octets text′ x packets a kept w t) q
+        (subst (λ (x : List ℕ). Run l a₀ kept₀ counts₀ packets₀ t₀ octets x counts packets a kept w t) p r))))
 
 pub turns-go-on : TurnsGoOn
 turns-go-on l b input kept t out counts r input′ kept′ t′ out′ counts′ m a₀ kept₀ counts₀ packets₀ t₀ octets text run =

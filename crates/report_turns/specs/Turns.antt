@@ -133,7 +133,7 @@ pub data Run (l : Layouts) (a₀ : Receiver) (kept₀ counts₀ : List ℕ) (pac
       (t′ : Lent)
       → Receives a kept w t r kept′ t′ → Run l a₀ kept₀ counts₀ packets₀ t₀ octets text counts packets a kept w t
       → Run l a₀ kept₀ counts₀ packets₀ t₀ octets (text ++ eventAdds l (r .event) t′ packets counts .text)
-          (eventAdds l (r .event) t′ packets counts .counts)
+      (eventAdds l (r .event) t′ packets counts .counts)
       (numbered packets (eventHands (r .event))) (r .receiver) kept′ (drop (r .used) w) t′
 
 -- ---- a turn
@@ -165,7 +165,7 @@ handedBy {r = r} {input′ = input′} {out′ = out′} m =
 pub record Went (l : Layouts) (a₀ : Receiver) (kept₀ counts₀ : List ℕ) (packets₀ : ℕ) (t₀ : Lent) (octets text counts : List ℕ)
     (packets : ℕ)
     (a : Receiver) (kept w : List ℕ) (t : Lent) (out : List ℕ) (o : Output) (out′ : List ℕ) (o′ : Output)
-        (piece said handed : List ℕ) : Type 0 where
+    (piece said handed : List ℕ) : Type 0 where
   pub run : Run l a₀ kept₀ counts₀ packets₀ t₀ (octets ++ piece) (text ++ said) counts packets a kept w t
   pub adds : Adds said out o out′ o′
   pub hands : handed ≡ adds .written
@@ -175,10 +175,10 @@ pub record Went (l : Layouts) (a₀ : Receiver) (kept₀ counts₀ : List ℕ) (
 abbrev pub TurnsGoOn : Type 0
 TurnsGoOn =
     (l : Layouts) (b : Standing) (input kept : List ℕ) (t : Lent) (out counts : List ℕ) (r : Standing) (input′ kept′ : List ℕ)
-        (t′ : Lent) (out′ counts′ : List ℕ)
+    (t′ : Lent) (out′ counts′ : List ℕ)
     → (m : Turned l b input kept t out counts r input′ kept′ t′ out′ counts′)
     → (a₀ : Receiver) (kept₀ counts₀ : List ℕ) (packets₀ : ℕ) (t₀ : Lent) (octets text : List ℕ)
     → Run l a₀ kept₀ counts₀ packets₀ t₀ octets text counts (b .state .packets) (b .receiver) kept (handOf (b .feed) input) t
     → Went l a₀ kept₀ counts₀ packets₀ t₀ octets text counts′ (r .state .packets) (r .receiver) kept′ (handOf (r .feed) input′) t′
     out (b .state .output) out′ (r .state .output) (m .pulls .piece) (pullAdds l (m .pulled .pull) t′ (b .state .packets) counts .text)
-        (handedBy m)
+    (handedBy m)

@@ -42,7 +42,7 @@ goingAt p = p .standing .going
 pub record TurnedAt (l : Layouts) (p : Place) (said : List ℕ) (q : Place) : Type 0 where
   pub turned :
       Turned l (p .standing) (p .input) (p .kept) (p .lent) (p .out) (p .counts) (q .standing) (q .input) (q .kept) (q .lent) (q .out)
-          (q .counts)
+      (q .counts)
   pub reads : q .octets ≡ p .octets ++ turned .pulls .piece
   pub says : said ≡ handedBy turned
 

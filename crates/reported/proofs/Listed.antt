@@ -77,8 +77,13 @@ one-longer [] h = refl
 one-longer (x ∷ xs) h = ap suc (one-longer xs h)
 
 joined-more : (xs : List Handed) (h : Handed) → length (joined (bare (xs ++ h ∷ []))) ≡ length (joined (bare xs)) + length (h .packet)
-joined-more xs h = omega (arith, ap length (split xs h []), length-append (joined (bare xs)) (h .packet ++ []), length-append
-    (h .packet) [])
+joined-more xs h = omega (
+  arith,
+  ap length (split xs h []),
+  length-append (joined (bare xs)) (h .packet ++ []),
+  length-append
+      (h .packet) [],
+)
 
 module _ (l : Layouts) (a : Accepted) (ps : List Handed) (u : Under (a .arrival) ps) (t : Lent) (packets : ℕ) (counts : List ℕ) where
   abbrev octets′ : List ℕ
@@ -122,7 +127,7 @@ module _ (l : Layouts) (a : Accepted) (ps : List Handed) (u : Under (a .arrival)
 
     next-adds : adds (length (xs ++ h ∷ []))
         ≡ behind (adds (length xs) .text)
-            (packetAdds l (asHanded (a .channel) (numbered packets (suc (length xs))) h) (adds (length xs) .counts))
+        (packetAdds l (asHanded (a .channel) (numbered packets (suc (length xs))) h) (adds (length xs) .counts))
     unfolding packetsAdd
     next-adds =
         ap adds (one-longer xs h)
@@ -137,9 +142,9 @@ module _ (l : Layouts) (a : Accepted) (ps : List Handed) (u : Under (a .arrival)
       let next : Added = packetAdds l (asHanded (a .channel) (numbered packets (suc (length xs))) h) (adds (length xs) .counts) in
       all (xs ++ h ∷ []) ys (e ∙ sym (append-assoc xs (h ∷ []) ys)) (next-start xs h ys e s)
       ∙ ap (λ (x : Added). behind (x .text) (handedAdd l (a .channel) packets (length (xs ++ h ∷ [])) (x .counts) ys))
-          (next-adds xs h ys e s)
+      (next-adds xs h ys e s)
       ∙ ap (λ (i : ℕ). behind (adds (length xs) .text ++ next .text) (handedAdd l (a .channel) packets i (next .counts) ys))
-          (one-longer xs h)
+      (one-longer xs h)
       ∙ ap (λ (x : List ℕ). adding x (handedAdd l (a .channel) packets (suc (length xs)) (next .counts) ys .counts))
       (append-assoc (adds (length xs) .text) (next .text) (handedAdd l (a .channel) packets (suc (length xs)) (next .counts) ys .text))
 
@@ -227,17 +232,17 @@ after l packets counts rest t ps z = behind (tellsAdd l t ps packets counts .tex
 
 one-more : (l : Layouts) (packets : ℕ) (counts : List ℕ) (z : Session) (t : Lent) → Enough t → (x : Stretch) (rest : List Item)
     → itemsAdd l z packets counts (offers x ∷ rest) ≡ after l packets counts rest (answered (offered z x t .answer))
-        (offered z x t .packets) (offered z x t .session)
+    (offered z x t .packets) (offered z x t .session)
 unfolding after
 one-more l packets counts z t e x rest =
     ap (λ (o : Outcome). behind (stepAdds l (o .answer) (o .packets) packets counts .text)
     (itemsAdd l (o .session) (numbered packets (length (o .packets))) (stepAdds l (o .answer) (o .packets) packets counts .counts) rest))
-        (sym (same-outcome z x t e))
+    (sym (same-outcome z x t e))
 
 by-taken : (l : Layouts) (packets : ℕ) (counts : List ℕ) (z : Session) (kept w : List ℕ) (t : Lent) → Enough t
     → (k : Taken) (rest : List Item)
     → itemsAdd l z packets counts (tells k kept w .items ++ rest) ≡ after l packets counts rest (heard z kept w t k .tells)
-        (heard z kept w t k .packets) (heard z kept w t k .session)
+    (heard z kept w t k .packets) (heard z kept w t k .session)
 unfolding after
 by-taken l packets counts z kept w t e (taken.Missing n) rest = refl
 by-taken l packets counts z kept w t e taken.Bad rest = refl
@@ -281,25 +286,25 @@ module _ (l : Layouts) (a : Receiver) (kept w : List ℕ) {t t′ : Lent} {r : R
       ∙ by-taken l packets counts (a .session) (keptBy (a .source) kept w) w t enough (scanned (a .source) kept w .taken) _
       ∙ sym
       (ap (λ (k : List ℕ). after l packets counts (foundIn (r .receiver .source) k (drop (r .used) w ++ p) .items)
-          (received a kept w t .tells) ps (r .receiver .session)) (c .keeps)
+      (received a kept w t .tells) ps (r .receiver .session)) (c .keeps)
       ∙ ap (λ (n : ℕ). after l packets counts (foundIn (r .receiver .source) (received a kept w t .kept) (drop n w ++ p) .items)
-          (received a kept w t .tells) ps (r .receiver .session)) (c .used)
+      (received a kept w t .tells) ps (r .receiver .session)) (c .used)
       ∙ ap (λ (b : Receiver). after l packets counts
-          (foundIn (b .source) (received a kept w t .kept) (drop (received a kept w t .used) w ++ p) .items)
-          (received a kept w t .tells) ps (b .session)) (c .receiver))
+      (foundIn (b .source) (received a kept w t .kept) (drop (received a kept w t .used) w ++ p) .items)
+      (received a kept w t .tells) ps (b .session)) (c .receiver))
 
   next-part : (p : List ℕ) → toAdd l a kept (w ++ p) packets counts
       ≡ behind (eventAdds l (r .event) t′ packets counts .text)
       (toAdd l (r .receiver) kept′ (drop (r .used) w ++ p) (numbered packets (eventHands (r .event)))
-          (eventAdds l (r .event) t′ packets counts .counts))
+      (eventAdds l (r .event) t′ packets counts .counts))
   unfolding after
   next-part p =
       part-of p
       ∙ ap (λ (x : Added). behind (x .text)
-          (toAdd l (r .receiver) kept′ (drop (r .used) w ++ p) (tellsNext (received a kept w t .tells) ps packets) (x .counts)))
-          (sym same-adds)
+      (toAdd l (r .receiver) kept′ (drop (r .used) w ++ p) (tellsNext (received a kept w t .tells) ps packets) (x .counts)))
+      (sym same-adds)
       ∙ ap (λ (n : ℕ). behind (eventAdds l (r .event) t′ packets counts .text)
-          (toAdd l (r .receiver) kept′ (drop (r .used) w ++ p) n (eventAdds l (r .event) t′ packets counts .counts))) (sym same-next)
+      (toAdd l (r .receiver) kept′ (drop (r .used) w ++ p) n (eventAdds l (r .event) t′ packets counts .counts))) (sym same-next)
 
 -- ---- a run
 
@@ -339,7 +344,7 @@ module _ {l : Layouts} {a₀ : Receiver} {kept₀ counts₀ : List ℕ} {packets
   first (takes {text = text} {counts} {packets} {a} {kept} {w} {t} r kept′ t′ g run) p =
       let said : List ℕ = eventAdds l (r .event) t′ packets counts .text in
       let rest : Added = toAdd l (r .receiver) kept′ (drop (r .used) w ++ p) (numbered packets (eventHands (r .event)))
-          (eventAdds l (r .event) t′ packets counts .counts) in
+      (eventAdds l (r .event) t′ packets counts .counts) in
       first run p
       ∙ ap (behind text) (next-part l a kept w g (room run) packets (few-numbers run) counts p)
       ∙ ap (λ (x : List ℕ). adding x (rest .counts)) (sym (append-assoc text said (rest .text)))

@@ -82,14 +82,14 @@ unfolding received
 call-none a kept w l {r} c =
     let s : Source = a .source in
     let e : foundIn (a .source) kept w .items
-        ≡ tells (scanned (a .source) kept w .taken) (keptBy (a .source) kept w) w .items
-        ++ foundIn (scanned (a .source) kept w .source) (keptBy (a .source) kept w)
-            (drop (scanned (a .source) kept w .used) w ++ []) .items =
+    ≡ tells (scanned (a .source) kept w .taken) (keptBy (a .source) kept w) w .items
+    ++ foundIn (scanned (a .source) kept w .source) (keptBy (a .source) kept w)
+    (drop (scanned (a .source) kept w .used) w ++ []) .items =
     ap (λ (x : List ℕ). foundIn (a .source) kept x .items) (sym (append-nil w))
-        ∙ ap (λ (f : Found). f .items) (finds (a .source) kept w .next []) in
+    ∙ ap (λ (f : Found). f .items) (finds (a .source) kept w .next []) in
     subst (None-left (foundIn (a .source) kept w .items)) (sym (c .tells))
     (heard-none (a .session) (a .source) kept w l (scanned (a .source) kept w) (keptBy (a .source) kept w)
-        (scanned (a .source) kept w .taken)
+    (scanned (a .source) kept w .taken)
     (finds (a .source) kept w .told) e)
 
 -- a turn that ends the run: nothing was left, nothing came, and nothing is added
@@ -141,8 +141,8 @@ module _ (l : Layouts) (a : Receiver) (s : State) (input out counts : List ℕ) 
       → Gone (text ++ said) (lines ++ saidBy x) q
   one-turn {text} {lines} {said} {p} {q} g x =
       let w = turns-go-on l (p .standing) (p .input) (p .kept) (p .lent) (p .out) (p .counts) (q .standing) (q .input) (q .kept)
-          (q .lent) (q .out)
-          (q .counts) (x .turned) a noneKept counts (s .packets) roomy (p .octets) lines (g .run) in
+      (q .lent) (q .out)
+      (q .counts) (x .turned) a noneKept counts (s .packets) roomy (p .octets) lines (g .run) in
       let before : Output = p .standing .state .output in
       let after : Output = q .standing .state .output in
       let handed : said ≡ w .adds .written = x .says ∙ w .hands in
@@ -189,7 +189,7 @@ module _ (l : Layouts) (a : Receiver) (s : State) (input out counts : List ℕ) 
       let event = pl .received .event in
       let packets : ℕ = p .standing .state .packets in
       let e : Ended (foundIn (p .standing .receiver .source) (p .kept) (handOf (p .standing .feed) (p .input)) .items)
-          (pulled event (p .standing .receiver .source) (r .failed) (r .came)) (r .came) =
+      (pulled event (p .standing .receiver .source) (r .failed) (r .came)) (r .came) =
       ended _ event (p .standing .receiver .source) r
       (call-none (p .standing .receiver) (p .kept) (handOf (p .standing .feed) (p .input)) (p .lent) (pl .calls)) (pl .only)
       (sym (ap (λ (y : Refilled). y .failed) (m .read)) ∙ read)
@@ -197,12 +197,12 @@ module _ (l : Layouts) (a : Receiver) (s : State) (input out counts : List ℕ) 
       let adds : pullAdds l (m .pulled .pull) (q .lent) packets (p .counts) ≡ adding [] (p .counts) =
       ap (λ (y : Pull). pullAdds l y (q .lent) packets (p .counts)) (pl .tells) ∙ e .adds l (q .lent) packets (p .counts) in
       let octets : q .octets ≡ p .octets = x .reads ∙ ap (λ (y : List ℕ). p .octets ++ y) (empty (pl .piece) (pl .many ∙ e .none-came))
-          ∙ append-nil (p .octets) in
+      ∙ append-nil (p .octets) in
       let whole : toAdd l a noneKept (q .octets) (s .packets) counts ≡ adding lines (p .counts) =
       ap (λ (y : List ℕ). toAdd l a noneKept y (s .packets) counts) (octets ∙ sym (append-nil (p .octets)))
       ∙ runs-are-listed .first (g .run) roomy-enough few []
       ∙ ap (λ (y : List ℕ). behind lines (toAdd l (p .standing .receiver) (p .kept) y packets (p .counts)))
-          (append-nil (handOf (p .standing .feed) (p .input)))
+      (append-nil (handOf (p .standing .feed) (p .input)))
       ∙ ap (λ (y : List Item). behind lines (itemsAdd l (p .standing .receiver .session) packets (p .counts) y)) (e .left)
       ∙ ap (λ (y : List ℕ). adding y (p .counts)) (append-nil lines) in
       let h : Gone (text ++ said) (lines ++ saidBy x) q = one-turn g x in
@@ -236,14 +236,14 @@ writes-readings l a input out counts r input′ out′ counts′ h room fine =
     let few : h .first .packets < 2 ^ 64 = omega (arith, h .starts .packets, h .begins .packets) in
     let none-yet : h .first .packets ≡ 0 = h .starts .packets ∙ h .begins .packets in
     let told = all-turns l a (h .first) input (h .headed) counts few (h .looped .loops .made .turns)
-        (or-left (s .read .failed) (s .going) rest) right
-        (or-right (s .read .failed) (s .going) rest) in
+    (or-left (s .read .failed) (s .going) rest) right
+    (or-right (s .read .failed) (s .going) rest) in
     let first-right : failedIn (h .first .output) ≡ false = was-right (failedIn (h .first .output)) (failedIn (h .last .output))
-        (told .failed) right in
+    (told .failed) right in
     let text : List ℕ = h .looped .loops .made .text in
     let head : pending (h .headed) (h .begun .output) ≡ header = put-behind (h .begins .heads .header) room in
     let nothing-left : pending (h .headed) (h .first .output) ≡ [] = ap (λ (n : ℕ). take n (h .headed))
-        (emptied-size (h .starts .empties) first-right) in
+    (emptied-size (h .starts .empties) first-right) in
     record {
       text =
           ap (λ (y : List ℕ). y ++ (text ++ pending out′ (h .last .output))) head

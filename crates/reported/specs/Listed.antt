@@ -66,5 +66,5 @@ pub record RunsAreListed : Type 0 where
   pub prompt : {l : Layouts} {a₀ : Receiver} {kept₀ counts₀ : List ℕ} {packets₀ : ℕ} {t₀ : Lent} {octets text counts : List ℕ}
       {packets : ℕ} {a : Receiver} {kept w : List ℕ} {t : Lent}
       → Run l a₀ kept₀ counts₀ packets₀ t₀ octets text counts packets a kept w t → Enough t₀ → packets₀ < 2 ^ 64 → (n : ℕ)
-          → Waits (a .source) kept w n
+      → Waits (a .source) kept w n
       → adding text counts ≡ toAdd l a₀ kept₀ octets packets₀ counts₀

@@ -52,7 +52,7 @@ returns-2 : tie.Need-returns-2 Inv-loop μ-loop
 returns-2 c = began (c .before .before .fresh .ensures) (stopped (c .before .loop .inv .6) (c .loop-test .left))
 
 pub rows-spec : {M : Type 1} → statement M
-rows-spec = tie.close (tie.spec 
+rows-spec = tie.close (tie.spec
     Inv-loop μ-loop (λ c κs. search needs) loop-holds (λ c. search needs) (λ c. search needs) (λ c. search needs) (λ c. search needs)
     (λ c. search needs) returns (λ c κs. search needs) add-made loop-less loop-again (λ c. search needs) (λ c. search needs)
     (λ c. search needs) (λ c. search needs) (λ c. search needs) returns-2)

@@ -20,11 +20,11 @@ same-length-3 c = c .before .before .before .before .before .before .before .bef
 returns : tie.Need-returns
 returns c =
     reported (c .before .before .before .before .before .before .before .before .before .before .before .before .before .before .before
-        .before .before .before .begun .ensures)
-        (c .before .before .before .before .before .before .before .before .before .before .before .before .before .before .before
-        .before .before .before .begun .kept .0)
-        (c .before .before .before .before .before .before .before .before .before .before .before .before .before .before .written
-        .ensures) (c .before .before .before .before .before .before .before .before .before .before .turns .ensures)
+    .before .before .before .begun .ensures)
+    (c .before .before .before .before .before .before .before .before .before .before .before .before .before .before .before
+    .before .before .before .begun .kept .0)
+    (c .before .before .before .before .before .before .before .before .before .before .before .before .before .before .written
+    .ensures) (c .before .before .before .before .before .before .before .before .before .before .turns .ensures)
     (c .written2 .ensures)
 
 pub report-spec : {M : Type 1} → statement M
@@ -32,4 +32,4 @@ report-spec =
     tie.close
     (tie.spec
     (λ c κs. search needs) (λ c κs. search needs) (λ c κs. search needs)
-        (λ c κs. search needs) same-length same-length-2 same-length-3 returns)
+    (λ c κs. search needs) same-length same-length-2 same-length-3 returns)

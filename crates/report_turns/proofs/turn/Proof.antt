@@ -36,16 +36,16 @@ same-length-6 c = c .before .before .before .before .before .before .before .bef
 returns : tie.Need-returns
 returns c =
     let a = c .before .before .before .before .before .before .before .before .before .before .before .before .before .before .before
-        .before .before .before .before .before .before .before .before .before .before .before .before .before .before .before .before
-        .before .before .before .before .before .before .before .before .before .before .before .before .before .before .before .before
-        .before .before .before .args in
+    .before .before .before .before .before .before .before .before .before .before .before .before .before .before .before .before
+    .before .before .before .before .before .before .before .before .before .before .before .before .before .before .before .before
+    .before .before .before .args in
     turned (layoutsOf (now (a .text)) (now (a .apids)) (now (a .sids)) (now (a .starts)) (a .n) (now (a .codes)) (now (a .froms))
-        (now (a .tos))) (c .before .before .before .before .before .before .before .before .before .before .before .before .before
-        .before .before .before .before .before .before .before .before .before .before .before .before .before .before .pull .ensures)
-        (c .before .before .before .before .before .before .before .before .before .before .heed .ensures)
-        (c .before .before .before .before .before .before .before .before .before .before .heed .kept .1 .1 .1 .1 .1 .1 .1 .1 .1 .1 .1
-        .1 .1 .0) (c .before .before .before .before .hand .ensures) (c .before .before .before-a-read .ensures) (c .is-bad .ensures)
-        (c .before .may-go-on .ensures)
+    (now (a .tos))) (c .before .before .before .before .before .before .before .before .before .before .before .before .before
+    .before .before .before .before .before .before .before .before .before .before .before .before .before .before .pull .ensures)
+    (c .before .before .before .before .before .before .before .before .before .before .heed .ensures)
+    (c .before .before .before .before .before .before .before .before .before .before .heed .kept .1 .1 .1 .1 .1 .1 .1 .1 .1 .1 .1
+    .1 .1 .0) (c .before .before .before .before .hand .ensures) (c .before .before .before-a-read .ensures) (c .is-bad .ensures)
+    (c .before .may-go-on .ensures)
 
 pub turn-spec : {M : Type 1} → statement M
 turn-spec =

@@ -17,7 +17,7 @@ abbrev Inv-loop : tie.InvT-loop
 Inv-loop name descriptor input₀ text apids sids starts n codes froms tos out₀ counts₀ kept₀ octets₀ lengths₀ firsts₀ standing₀
     made₀ input out counts kept octets lengths firsts standing made =
     (length input ≡ length input₀) × (length out ≡ length out₀) × (length counts ≡ length counts₀) × (length octets ≡ 501) ×
-        (length lengths ≡ 16)
+    (length lengths ≡ 16)
     × (length firsts ≡ 16) × (made ≤ most)
     × Turning (layoutsOf text apids sids starts n codes froms tos) standing₀ input₀ kept₀ (lent octets₀ lengths₀ firsts₀) out₀ counts₀
     made standing input kept (lent octets lengths firsts) out counts
@@ -43,9 +43,9 @@ returns : tie.Need-returns Inv-loop μ-loop
 unfolding roomy
 returns c =
     let a = c .before .before .before .before .before .before .before .before .before .before .before .before .before .before .before
-        .args in
+    .args in
     looped-all (layoutsOf (now (a .text)) (now (a .apids)) (now (a .sids)) (now (a .starts)) (a .n) (now (a .codes)) (now (a .froms))
-        (now (a .tos))) (a .fresh) (a .first)
+    (now (a .tos))) (a .fresh) (a .first)
     (c .before .before .before .begins .ensures) (c .before .before .loop .inv .7) (c .if1 .taken)
 
 slice-aggregate-turn : tie.Need-slice-aggregate-turn Inv-loop μ-loop
@@ -58,29 +58,42 @@ slice-aggregate-turn-3 : tie.Need-slice-aggregate-turn-3 Inv-loop μ-loop
 slice-aggregate-turn-3 c = sym (c .before .before .before .before .before .before .before .loop .inv .5)
 
 add-made : tie.Need-add-made Inv-loop μ-loop
-add-made c = record { fits = omega
-    (arith, c .before .before .before .before .before .before .before .before .before .before .before .before .before .before .before
-    .before .before .before .before .loop .inv .6, c .before .before .before .before .before .before .before .before .before .before
-    .before .before .before .before .before .before .before .if1 .left) }
+add-made c = record {
+  fits = omega (
+    arith,
+    c .before .before .before .before .before .before .before .before .before .before .before .before .before .before .before
+        .before .before .before .before .loop .inv .6,
+    c .before .before .before .before .before .before .before .before .before .before
+        .before .before .before .before .before .before .before .if1 .left,
+  );
+}
 
 loop-less : tie.Need-loop-less Inv-loop μ-loop
-loop-less c = omega (arith, c .before .before .before .before .before .before .before .before .before .before .before .before .before
-    .before .before .before .before .before .before .loop .inv .6, c .before .before .before .before .before .before .before .before
-    .before .before .before .before .before .before .before .before .before .if1 .left)
+loop-less c = omega (
+  arith,
+  c .before .before .before .before .before .before .before .before .before .before .before .before .before
+      .before .before .before .before .before .before .loop .inv .6,
+  c .before .before .before .before .before .before .before .before
+      .before .before .before .before .before .before .before .before .before .if1 .left,
+)
 
 loop-again : tie.Need-loop-again Inv-loop μ-loop
 loop-again c =
     let t = c .before .before .before .before .before .before .before .before .before .turn in
     let l = c .before .before .before .before .before .before .before .before .before .before .before .before .before .before .before
-        .before .before .before .before .loop in (
+    .before .before .before .before .loop in (
       t .kept .1 .1 .0 ∙ l .inv .0,
       t .kept .1 .1 .1 .1 .1 .1 .1 .1 .1 .1 .1 .1 .1 .1 .1 .0 ∙ l .inv .1,
       t .kept .1 .1 .1 .1 .1 .1 .1 .1 .1 .1 .1 .1 .1 .1 .1 .1 .0 ∙ l .inv .2,
       t .kept .1 .1 .1 .1 .0 ∙ l .inv .3,
       t .kept .1 .1 .1 .1 .1 .0 ∙ l .inv .4,
       t .kept .1 .1 .1 .1 .1 .1 .0 ∙ l .inv .5,
-      omega (arith, l .inv .6, c .before .before .before .before .before .before .before .before .before .before .before .before .before
-          .before .before .before .before .if1 .left),
+      omega (
+        arith,
+        l .inv .6,
+        c .before .before .before .before .before .before .before .before .before .before .before .before .before
+            .before .before .before .before .if1 .left,
+      ),
       one-turn _ _ _ _ _ _ _ (l .inv .7)
           (c .before .before .before .before .before .before .before .before .before .before .before .before .before .before .before
           .before .before .before .loop-test .taken) (t .ensures),
@@ -100,7 +113,7 @@ unfolding roomy
 returns-2 c =
     let a = c .before .before .before .before .before .before .before .before .before .before .before .before .before .before .args in
     looped (layoutsOf (now (a .text)) (now (a .apids)) (now (a .sids)) (now (a .starts)) (a .n) (now (a .codes)) (now (a .froms))
-        (now (a .tos))) (a .fresh) (a .first)
+    (now (a .tos))) (a .fresh) (a .first)
     (c .before .before .begins .ensures) (c .before .loop .inv .7) (c .loop-test .left)
 
 pub turns-spec : {M : Type 1} → statement M
