@@ -41,13 +41,17 @@ abbrev buffer : List ℕ
 buffer = table ++ (0 ∷ [])
 
 abbrev whole : Refilled
-whole = record { have = 8; came = 8; failed = false }
+whole = record { have = 8; came = 8; failed = false; tried = true }
+
+-- A read that brings nothing.
+abbrev dried : Refilled
+dried = record { have = 0; came = 0; failed = false; tried = true }
 
 abbrev once : Reading
 once = record { form = grown (known []) table; read = whole; going = true }
 
 abbrev twice : Reading
-twice = record { form = grown (grown (known []) table) []; read = unread; going = false }
+twice = record { form = grown (grown (known []) table) []; read = dried; going = false }
 
 abbrev formed : Formed
 formed = record { reading = twice; made = 2 }
@@ -62,7 +66,7 @@ first-read = record {
         (more {said = []} {r = formPlace start buffer} {t = formPlace once buffer} none refl
         (record {
           grows = record {
-            refills = record { piece = table; window = refl; many = refl; inside = omega arith; room = λ _. omega arith };
+            refills = record { piece = table; window = refl; many = refl; inside = omega arith; tried = refl; room = λ _. omega arith };
             grows = refl;
             going = refl;
           };
@@ -70,7 +74,7 @@ first-read = record {
         })) refl
         (record {
           grows = record {
-            refills = record { piece = []; window = refl; many = refl; inside = omega arith; room = λ _. omega arith };
+            refills = record { piece = []; window = refl; many = refl; inside = omega arith; tried = refl; room = λ _. omega arith };
             grows = refl;
             going = refl;
           };
@@ -92,8 +96,8 @@ abbrev last : State
 last = record {
   feed = freshFeed;
   receiver = receiver;
-  audit = stopped (having (fresh check) unread) (ended check []);
-  read = unread;
+  audit = stopped (having (fresh check) dried) (ended check []);
+  read = dried;
   going = false;
   ended = true;
 }
@@ -102,10 +106,10 @@ abbrev heard : Received
 heard = record { receiver = receiver; used = 0; event = event.Missing 1 }
 
 abbrev pulled : Pulled
-pulled = record { feed = freshFeed; receiver = receiver; pull = pull.End; read = unread }
+pulled = record { feed = freshFeed; receiver = receiver; pull = pull.End; read = dried }
 
-unfoldable no-row : Refills (0 ∷ []) 0 0 (0 ∷ []) unread
-no-row = record { piece = []; window = refl; many = refl; inside = omega arith; room = λ _. omega arith }
+unfoldable no-row : Refills (0 ∷ []) 0 0 (0 ∷ []) dried
+no-row = record { piece = []; window = refl; many = refl; inside = omega arith; tried = refl; room = λ _. omega arith }
 
 unfoldable second-read : Looped receiver check (0 ∷ []) [] lent (0 ∷ []) (record { state = last; made = 1 }) (0 ∷ []) [] lent (0 ∷ [])
 unfolding received scanned keptBy streamTaken kissScanned atEnd pick brought no-row
@@ -124,7 +128,7 @@ second-read = record {
               receiver = refl;
               window = refl;
               many = refl;
-              only = tt;
+              only = refl;
               tells = refl;
               passed = refl;
             };
@@ -137,8 +141,8 @@ second-read = record {
               going = refl;
               ended = refl;
               ends =
-                  tells {b = having (fresh check) unread} {piece = []} {rows′ = 0 ∷ []} refl
-                  (dry {a = fresh check} {rows = 0 ∷ []} {rows₁ = 0 ∷ []} unread no-row (omega arith) refl);
+                  tells {b = having (fresh check) dried} {piece = []} {rows′ = 0 ∷ []} refl
+                  (dry {a = fresh check} {rows = 0 ∷ []} {rows₁ = 0 ∷ []} dried no-row (omega arith) refl);
             };
           };
           silent = refl;

@@ -67,7 +67,7 @@ module _ (input : List ℕ) (from end passed : ℕ) (s : Source) {e : Event} whe
     piece = g .piece;
     window = ap (λ (n : ℕ). hand input′ 0 n) k ∙ g .window;
     many = g .many;
-    only = subst (λ (y : Event). Missed y r) (sym h) tt;
+    only = subst (λ (y : Event). Missed y r) (sym h) (g .tried);
     tells = d ∙ ap (λ (y : Event). pulled y s (r .failed) (r .came)) (sym h);
     passed = refl;
   }

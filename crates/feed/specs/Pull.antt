@@ -2,7 +2,7 @@
 use Prim.Native.Nat.{ℕ, _+_, _%_, _^_}
 use mathlib.Core.Path.{_≡_}
 use mathlib.Core.List.{List, _++_}
-use mathlib.Core.Bool.{Bool}
+use mathlib.Core.Bool.{Bool, true}
 use lib.ListN.{length, drop}
 use lib.Dec.{eqb}
 use Rattle.octets.specs.Pick.{pick}
@@ -42,9 +42,9 @@ pulled event.Opened s failed came = pull.Opened
 pulled event.Nothing s failed came = pull.More
 pulled (event.Answered a) s failed came = pull.Answered a
 
--- A read is made only if octets are missing.
+-- A read is made if octets are missing, and only then.
 abbrev pub Missed : Event → Refilled → Type 0
-Missed (event.Missing n) r = Unit {0}
+Missed (event.Missing n) r = r .tried ≡ true
 Missed event.Bad r = r ≡ unread
 Missed event.Over r = r ≡ unread
 Missed event.Opened r = r ≡ unread

@@ -84,7 +84,7 @@ module _ (s : State) (input kept : List ℕ) {w : List ℕ} (same : w ≡ handOf
 
     -- nothing was read
     turned : (going bad : Bool) {f : Refilled} → f ≡ unread
-        → (going ≡ false → o .failed ≡ false → Ends bad (r .receiver) kept′ (hand input from (s .end)))
+        → (going ≡ false → o .failed ≡ false → (bad ≡ true) × Ends bad (r .receiver) kept′ (hand input from (s .end)))
         → (o .failed ≡ true → going ≡ false) → (going ≡ true → 0 < length said)
         → Turned s input kept said (state from (s .end) going bad f) input kept′
     turned going bad {f} e why stops says =
@@ -95,7 +95,8 @@ module _ (s : State) (input kept : List ℕ) {w : List ℕ} (same : w ≡ handOf
           goes = λ a₀ kept₀ octets text run.
               subst (λ (x : List ℕ). Run a₀ kept₀ x (text ++ said) (r .receiver) kept′ (hand input from (s .end))) (sym (append-nil octets))
               (listed a₀ kept₀ octets text run);
-          ends = λ g d. (why g d, refl);
+          ends = λ g d. (why g d .1, refl);
+          asked = λ g d b. absurd (true≢false (sym (why g d .0) ∙ b));
           fails = stops;
           once = λ _. refl;
           moves = λ g. let n = says g in omega arith;
@@ -122,7 +123,7 @@ module _ (s : State) (input kept : List ℕ) {w : List ℕ} (same : w ≡ handOf
 
       pub turned-over : {f : Refilled} → f ≡ unread → r .stop ≡ Over
           → Turned s input kept said (state from (s .end) false true f) input kept′
-      turned-over u e = turned false true u (λ _ _. stopped e) never (λ g. absurd (false≢true g))
+      turned-over u e = turned false true u (λ _ _. (refl, stopped e)) never (λ g. absurd (false≢true g))
 
       -- a piece was read, or none came, or the read failed
       pub turned-more : {input′ : List ℕ} {f : Refilled} → Refills input from (s .end) input′ f → {k : ℕ} → r .stop ≡ Missing k
@@ -141,6 +142,7 @@ module _ (s : State) (input kept : List ℕ) {w : List ℕ} (same : w ≡ handOf
             let v : hand input from (s .end) ≡ hand input′ 0 (f .have) =
             sym (g .window ∙ ap (λ (x : List ℕ). hand input from (s .end) ++ x) p ∙ append-nil _) in
             (record { n = k; waits = subst (λ (x : List ℕ). Waits (r .receiver .source) kept′ x k) v (stopped e) }, z);
+        asked = λ _ _ _. g .tried;
         fails = λ t. failed-stops (f .failed) (not (eqb (f .came) 0)) (only (f .failed) t);
         once = λ t. absurd (true≢false (sym t ∙ well));
         moves = λ d. moved (f .failed) (f .came) (length said) d;

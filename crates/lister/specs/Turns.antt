@@ -60,8 +60,9 @@ pub record Turned (s : State) (input kept said : List ℕ) (r : State) (input′
   -- Whatever was read and written before, the turn goes on with that run.
   pub goes : (a₀ : Receiver) (kept₀ octets text : List ℕ) → Run a₀ kept₀ octets text (s .receiver) kept (handOf s input)
       → Run a₀ kept₀ (octets ++ piece) (text ++ said) (r .receiver) kept′ (handOf r input′)
-  -- How it ends if nothing failed; whatever fails ends it, and nothing is read behind a write that failed.
+  -- How it ends if nothing failed: where octets are missing the system was asked for more. Whatever fails ends it, and nothing is read behind a write that failed.
   pub ends : r .going ≡ false → failedIn r ≡ false → Ends (r .over) (r .receiver) kept′ (handOf r input′) × (r .read .came ≡ 0)
+  pub asked : r .going ≡ false → failedIn r ≡ false → r .over ≡ false → r .read .tried ≡ true
   pub fails : failedIn r ≡ true → r .going ≡ false
   pub once : r .written .failed ≡ true → r .read ≡ unread
   -- Each but the last reads or writes an octet at least.

@@ -3,6 +3,7 @@ use Prim.Native.Nat.{ℕ, _≤_, _<_}
 use mathlib.Core.Path.{_≡_, refl, sym, ap, _∙_, subst}
 use mathlib.Core.Bool.{Bool, true, false, not}
 use mathlib.Core.List.{List, [], _++_, append-nil}
+use native.Mathlib.Omega.{arith}
 use lib.Dec.{eqb}
 use lib.ListN.{length}
 use Rattle.window.specs.Window.{hand, unread, Refills}
@@ -12,11 +13,12 @@ use Rattle.script.specs.Filled.{Fills, Stand, stand, start, goingAt, Bri
 use Rattle.script.specs.declared.Filling.{Filling}
 
 module _ (before : Filling) (script : List ℕ) where
-  pub fills-none : {read : Refilled} → read ≡ unread → Fills before script (record { have = before .have; read = read; going = false }) script
-  fills-none e = record {
+  pub fills-none : {read : Refilled} → length script ≤ before .have → read ≡ unread → Fills before script (record { have = before .have; read = read; going = false }) script
+  fills-none full e = record {
     piece = [];
     window = sym (append-nil _);
     many = ap (λ (x : Refilled). x .came) (sym e);
+    asked = λ h. absurd (omega arith);
     goes = ap (λ (x : Refilled). not (eqb (x .came) 0)) (sym e);
   }
 
@@ -26,6 +28,7 @@ module _ (before : Filling) (script : List ℕ) where
     piece = g .piece;
     window = ap (hand script′ 0) h ∙ g .window;
     many = g .many;
+    asked = λ _. g .tried;
     goes = e ∙ ap (λ (k : ℕ). not (eqb k 0)) c;
   }
 

@@ -1,8 +1,8 @@
 -- A script as it is read, a piece after another.
 use mathlib.Core.Path.{_≡_}
-use mathlib.Core.Bool.{Bool, true, false, not}
+use mathlib.Core.Bool.{Bool, true, not}
 use mathlib.Core.List.{List, _++_}
-use Prim.Native.Nat.{ℕ}
+use Prim.Native.Nat.{ℕ, _<_}
 use lib.ListN.{length}
 use lib.Dec.{eqb}
 use Rattle.window.specs.Window.{hand, unread}
@@ -10,11 +10,12 @@ use Rattle.window.specs.Turns.{Turns, Loops}
 use Rattle.script.specs.declared.Filling.{Filling}
 use Rattle.script.specs.declared.Filled.{Filled}
 
--- One read: a piece comes behind the octets at hand, and more may come where it is not empty.
+-- One read: a piece comes behind the octets at hand, and more may come where it is not empty. Where there is room the system is asked.
 pub record Fills (before : Filling) (script : List ℕ) (r : Filling) (script′ : List ℕ) : Type 0 where
   pub piece : List ℕ
   pub window : hand script′ 0 (r .have) ≡ hand script 0 (before .have) ++ piece
   pub many : length piece ≡ r .read .came
+  pub asked : before .have < length script → r .read .tried ≡ true
   pub goes : r .going ≡ not (eqb (r .read .came) 0)
 
 -- Where the reads stand.

@@ -65,17 +65,18 @@ module _ (input : List ℕ) (at end : ℕ) {l : List ℕ} (e : l ≡ hand input 
     at-hand : take (length l) b ≡ hand input at end
     at-hand = moved ∙ ap (λ (k : ℕ). take k (drop at input)) (ap length e) ∙ take-own (end - at) (drop at input)
 
-    pub refills-full : length l ≡ length b → Refills input at end b (record { have = length l; came = 0; failed = true })
+    pub refills-full : length l ≡ length b → Refills input at end b (record { have = length l; came = 0; failed = true; tried = true })
     refills-full h = record {
       piece = [];
       window = ap (λ (k : ℕ). take k b) (sub-zero (length l)) ∙ at-hand ∙ sym (append-nil _);
       many = refl;
       inside = omega arith;
+      tried = refl;
       room = λ f. absurd (true≢false f);
     }
 
     pub refills : {b′ : List ℕ} {came : ℕ} (failed : Bool) → take (length l) b′ ≡ take (length l) b → length l + came ≤ length b′ → length l < length b′
-        → Refills input at end b′ (record { have = length l + came; came = came; failed = failed })
+        → Refills input at end b′ (record { have = length l + came; came = came; failed = failed; tried = true })
     refills {b′} {came} failed kept inside room = record {
       piece = drop (length l) (take (length l + came) b′);
       window = ap (λ (k : ℕ). take k b′) (sub-zero (length l + came))
@@ -83,6 +84,7 @@ module _ (input : List ℕ) (at end : ℕ) {l : List ℕ} (e : l ≡ hand input 
           ∙ ap (λ (x : List ℕ). x ++ drop (length l) (take (length l + came) b′)) (take-take (length l) (length l + came) b′ (omega arith) ∙ kept ∙ at-hand);
       many = simp length-drop (omega (arith, length-take-le (length l + came) b′ inside));
       inside = inside;
+      tried = refl;
       room = λ f. omega (arith, ap length e);
     }
 

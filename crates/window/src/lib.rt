@@ -6,6 +6,7 @@ ghost use mathlib.Core.Path.{_≡_};
 ghost use lib.ListN.{length, take, drop};
 ghost use Rattle.window.specs.Window.{hand, Refills, unread, unwritten};
 use libc::STDERR_FILENO;
+use libc::STDIN_FILENO;
 use libc::STDOUT_FILENO;
 
 // A program's exit status: all that was asked was done.
@@ -17,12 +18,13 @@ pub const AGAINST: i32 = 1;
 // The program was used wrongly, or the system failed.
 pub const BROKEN: i32 = 2;
 
-// What a read left: how many octets are at hand, from the buffer's start on, how many of them came, and whether it failed. The fields are
-// private, so that only a read answers that octets came or that it failed.
+// What a read left: how many octets are at hand, from the buffer's start on, how many of them came, whether it failed, and whether the
+// system was asked at all. The fields are private, so that only a read answers that octets came, that none are left or that it failed.
 pub struct Refilled {
     have: usize,
     came: usize,
     failed: bool,
+    tried: bool,
 }
 
 impl Refilled {
@@ -34,6 +36,7 @@ impl Refilled {
             have: 0,
             came: 0,
             failed: false,
+            tried: false,
         }
     }
 
@@ -122,11 +125,12 @@ pub fn refill(name: &[u8], source: i32, input: &mut [u8], at: usize, end: usize)
     let have = hand(input, at, end).len();
     shift(input, at, have);
     if have == input.len() {
-        tell_full(name);
+        tell_full(name, source);
         return Refilled {
             have,
             came: 0,
             failed: true,
+            tried: true,
         };
     }
     let got = read_some(name, source, input, have);
@@ -135,6 +139,7 @@ pub fn refill(name: &[u8], source: i32, input: &mut [u8], at: usize, end: usize)
         have: have + came,
         came,
         failed: got.failed,
+        tried: true,
     }
 }
 
@@ -175,7 +180,7 @@ fn read_some(name: &[u8], source: i32, input: &mut [u8], from: usize) -> Got
 {
     let part = &mut input[from..];
     let got = libc::read(source, part);
-    report(name, got);
+    report(name, source, got);
     let came = io::count(got, part);
     Got {
         came,
@@ -183,19 +188,27 @@ fn read_some(name: &[u8], source: i32, input: &mut [u8], from: usize) -> Got
     }
 }
 
-// Tells on standard error that there is no room for a read.
-fn tell_full(name: &[u8]) {
+// Tells on standard error, behind the program's name, which input this is about: a program reads standard input, or one file that its
+// command line names.
+fn name_input(name: &[u8], source: i32) {
     io::write_all(STDERR_FILENO, name);
-    io::write_all(
-        STDERR_FILENO,
-        b": standard input: no room to read more of it\n",
-    );
+    if source == STDIN_FILENO {
+        io::write_all(STDERR_FILENO, b": standard input");
+        return;
+    }
+    io::write_all(STDERR_FILENO, b": the named file");
+}
+
+// Tells on standard error that there is no room for a read.
+fn tell_full(name: &[u8], source: i32) {
+    name_input(name, source);
+    io::write_all(STDERR_FILENO, b": no room to read more of it\n");
 }
 
 // Tells a read that failed on standard error.
-fn report(name: &[u8], got: isize) {
+fn report(name: &[u8], source: i32, got: isize) {
     if got < 0 {
-        io::write_all(STDERR_FILENO, name);
-        os::fail(b": standard input");
+        name_input(name, source);
+        os::fail(b"");
     }
 }
