@@ -9,7 +9,7 @@ pub extern "C" fn ametzuko_audit() -> i32 {
     }
     let mut path = io::buffer();
     let n = os::arg(1, &mut path);
-    audits::run(
+    audit_run::run(
         b"audit",
         octets::part(&path, 0, n),
         STDIN_FILENO,

@@ -6,9 +6,9 @@ use mathlib.Core.List.{List, [], _++_}
 use Rattle.window.specs.Window.{hand, Refills, unread}
 use Rattle.window.specs.Turns.{Turns, none, more, Loops}
 use Rattle.window.specs.declared.Refilled.{Refilled}
-use Rattle.training.specs.Form.{known, grown}
-use Rattle.training.specs.declared.Form.{Form}
-use Rattle.training.proofs.Keeping.{keeps-on}
+use Rattle.table.specs.Form.{known, grown}
+use Rattle.table.specs.declared.Form.{Form}
+use Rattle.table.proofs.Keeping.{keeps-on}
 use Rattle.audit_form.specs.Reads.{brought, Grows, Place, goingAt, GrowsAt, place, start, broughtBy, FormOfAll}
 use Rattle.audit_form.specs.declared.Reading.{Reading}
 

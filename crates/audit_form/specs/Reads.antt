@@ -7,7 +7,7 @@ use lib.Dec.{eqb}
 use Rattle.window.specs.Window.{Refills, unread}
 use Rattle.window.specs.Turns.{Turns, none, more, Loops}
 use Rattle.window.specs.declared.Refilled.{Refilled}
-use Rattle.training.specs.Form.{known, grown}
+use Rattle.table.specs.Form.{known, grown}
 use Rattle.audit_form.specs.declared.Reading.{Reading}
 use Rattle.audit_form.specs.declared.Formed.{Formed}
 

@@ -3,7 +3,7 @@
 // What is kept of the pieces is training's. Here is the loop: a read after another, until one brings nothing or fails.
 ghost use mathlib.Core.Path.{_≡_};
 ghost use Rattle.audit_form.specs.Reads.{brought, Grows, Looped};
-use training::Form;
+use table::Form;
 use window::Refilled;
 
 // The most reads.

@@ -13,8 +13,8 @@ use Rattle.decimal.specs.Text.{longestNumber, decimal}
 use Rattle.decimal.specs.Laid.{Laid, Puts}
 use Rattle.decimal.proofs.Laid.{resaid, joined, put-laid, puts-none, puts-laid, number-laid}
 use Rattle.decimal.proofs.Short.{decimal-short}
-use Rattle.training.specs.declared.Verdict.{Verdict}
-use Rattle.training.specs.declared.Verdict.the-variants.{Passes, Faulty}
+use Rattle.table.specs.declared.Verdict.{Verdict}
+use Rattle.table.specs.declared.Verdict.the-variants.{Passes, Faulty}
 use Rattle.audit_line.specs.Text.{badlyFormed, outOfOrder, noPacket, noValue, tooEarly, wordsOf, spoken, verdictLine, longestWords, longestVerdict, VerdictsAreShort}
 
 -- the words, by the number

@@ -6,8 +6,8 @@ use lib.Dec.{eqb}
 use Rattle.octets.specs.Pick.{pick}
 use Rattle.answer.specs.Refusals as reason
 use Rattle.decimal.specs.Text.{decimal}
-use Rattle.training.specs.declared.Verdict.{Verdict}
-use Rattle.training.specs.declared.Verdict.the-variants.{Passes, Faulty}
+use Rattle.table.specs.declared.Verdict.{Verdict}
+use Rattle.table.specs.declared.Verdict.the-variants.{Passes, Faulty}
 
 -- The words of each reason.
 

@@ -4,8 +4,8 @@ ghost use Prim.Native.Nat.{_+_, _≤_};
 ghost use lib.ListN.{length};
 ghost use Rattle.decimal.specs.Laid.{Laid, Puts};
 ghost use Rattle.audit_line.specs.Text.{longestWords, longestVerdict, wordsOf, spoken, verdictLine};
-ghost use Rattle.training.specs.declared.Verdict.the-variants.{Faulty};
-use training::Verdict;
+ghost use Rattle.table.specs.declared.Verdict.the-variants.{Faulty};
+use table::Verdict;
 
 // The most octets that a verdict's line takes.
 pub const VERDICT: usize = 87;

@@ -5,9 +5,9 @@ use mathlib.Core.Bool.{Bool, true, false}
 use mathlib.Core.List.{List, [], _∷_}
 use Rattle.octets.specs.Pick.{pick}
 use Rattle.rules.specs.Channel.{Handed}
-use Rattle.training.specs.Look.{handed, looked}
-use Rattle.training.specs.declared.Check.{Check}
-use Rattle.training.specs.declared.Looked.{Looked}
+use Rattle.table.specs.Look.{handed, looked}
+use Rattle.table.specs.declared.Check.{Check}
+use Rattle.table.specs.declared.Looked.{Looked}
 use Rattle.audit_rows.specs.Goes.{handOf, Looks, packet, says, more, none, Going, idle, stays, looks}
 use Rattle.audit_rows.specs.declared.Audit.{Audit}
 use Rattle.audit_rows.specs.declared.Turned.{Turned}

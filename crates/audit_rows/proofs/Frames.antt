@@ -11,7 +11,7 @@ use Rattle.octets.specs.Numbers.{at}
 use Rattle.octets.specs.Parts.{part}
 use Rattle.rules.specs.Channel.{Handed}
 use Rattle.session.specs.declared.StepAnswer.{StepAnswer}
-use Rattle.training.specs.Look.{handed}
+use Rattle.table.specs.Look.{handed}
 use Rattle.audit_rows.specs.Goes.{Goes}
 use Rattle.audit_rows.specs.Frame.{handedFrom, handedIn, handedBy}
 use Rattle.audit_rows.specs.declared.Audit.{Audit}

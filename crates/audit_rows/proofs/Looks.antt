@@ -10,16 +10,16 @@ use lib.Seq.{drop-append-le}
 use Rattle.octets.specs.Pick.{pick}
 use Rattle.octets.proofs.Choices.{picks}
 use Rattle.rules.specs.Channel.{Handed}
-use Rattle.training.specs.Table.{Row, rowOctets, rowsIn}
-use Rattle.training.specs.Look.{behindRow, handed, illFormed, along, looked, ended}
-use Rattle.training.specs.Calls.{Window, Tells, says, goes, waits}
-use Rattle.training.specs.declared.Verdict.{Verdict}
-use Rattle.training.specs.declared.Check.{Check}
-use Rattle.training.specs.declared.Looked.{Looked}
-use Rattle.training.specs.declared.Wanted.the-variants as wanted
-use Rattle.training.proofs.Looking.{looks-not, ends-short}
-use Rattle.training.proofs.Telling.{formed-looks}
-use Rattle.training.proofs.Verdicts.{each-looks-on}
+use Rattle.table.specs.Table.{Row, rowOctets, rowsIn}
+use Rattle.table.specs.Look.{behindRow, handed, illFormed, along, looked, ended}
+use Rattle.table.specs.Calls.{Window, Tells, says, goes, waits}
+use Rattle.table.specs.declared.Verdict.{Verdict}
+use Rattle.table.specs.declared.Check.{Check}
+use Rattle.table.specs.declared.Looked.{Looked}
+use Rattle.table.specs.declared.Wanted.the-variants as wanted
+use Rattle.table.proofs.Looking.{looks-not, ends-short}
+use Rattle.table.proofs.Telling.{formed-looks}
+use Rattle.table.proofs.Verdicts.{each-looks-on}
 
 -- Fewer octets than the rows have that are still to be looked at.
 abbrev pub Short : Check → List ℕ → Type 0

@@ -14,14 +14,14 @@ use Rattle.rules.specs.Channel.{Handed}
 use Rattle.window.specs.Window.{hand, Refills, unread}
 use Rattle.window.specs.declared.Refilled.{Refilled}
 use Rattle.window.proofs.Hands.{hand-behind, take-short}
-use Rattle.training.specs.Look.{handed, illFormed, looked, ended}
-use Rattle.training.specs.Calls.{Tells, ends}
-use Rattle.training.specs.declared.Verdict.{Verdict}
-use Rattle.training.specs.declared.Verdict.the-variants.{Passes}
-use Rattle.training.specs.declared.Check.{Check}
-use Rattle.training.specs.declared.Looked.{Looked}
-use Rattle.training.specs.declared.Wanted.the-variants as wanted
-use Rattle.training.proofs.Looking.{ends-not, ends-all, ends-short}
+use Rattle.table.specs.Look.{handed, illFormed, looked, ended}
+use Rattle.table.specs.Calls.{Tells, ends}
+use Rattle.table.specs.declared.Verdict.{Verdict}
+use Rattle.table.specs.declared.Verdict.the-variants.{Passes}
+use Rattle.table.specs.declared.Check.{Check}
+use Rattle.table.specs.declared.Looked.{Looked}
+use Rattle.table.specs.declared.Wanted.the-variants as wanted
+use Rattle.table.proofs.Looking.{ends-not, ends-all, ends-short}
 use Rattle.audit_form.specs.Reads.{brought}
 use Rattle.audit_form.proofs.Came.{some-came, none-came}
 use Rattle.audit_rows.specs.Goes.{fresh, stopped, handOf, behind, having, turned, Looks, packet, says, more, none, Going, idle, stays, looks, missing, Filling, full, fills, dry, Ending, stood, tells, Turns, Goes, Fills, Ends}

@@ -8,12 +8,12 @@ use mathlib.Core.List.{List, [], _∷_, _++_, append-nil}
 use lib.ListN.{length, drop}
 use Rattle.octets.specs.Numbers.{at}
 use Rattle.rules.specs.Channel.{Handed}
-use Rattle.training.specs.Table.{rowsFrom}
-use Rattle.training.specs.Form.{known, started}
-use Rattle.training.specs.Calls.{Tells}
-use Rattle.training.specs.declared.Verdict.{Verdict}
-use Rattle.training.proofs.Keeping.{keeps-on}
-use Rattle.training.proofs.Verdicts.{tells-verdict}
+use Rattle.table.specs.Table.{rowsFrom}
+use Rattle.table.specs.Form.{known, started}
+use Rattle.table.specs.Calls.{Tells}
+use Rattle.table.specs.declared.Verdict.{Verdict}
+use Rattle.table.proofs.Keeping.{keeps-on}
+use Rattle.table.proofs.Verdicts.{tells-verdict}
 use Rattle.audit_form.proofs.Came.{whole}
 use Rattle.audit_rows.specs.Goes.{fresh, Looks, packet, says, more, none, Going, idle, stays, looks, Filling, full, fills, dry, stood, tells}
 use Rattle.window.specs.Window.{Refills}

@@ -6,7 +6,7 @@ use Rattle.octets.specs.Parts.{part}
 use Rattle.rules.specs.Channel.{Handed}
 use Rattle.session.specs.declared.StepAnswer.{StepAnswer}
 use Rattle.session.specs.declared.StepAnswer.the-variants as answer
-use Rattle.training.specs.Look.{handed}
+use Rattle.table.specs.Look.{handed}
 
 -- Packets with that arrival number that stand end to end in octets from an index on, by their lengths.
 abbrev pub handedFrom : ℕ → List ℕ → ℕ → List ℕ → List Handed

@@ -9,13 +9,13 @@ use Rattle.octets.specs.Pick.{pick}
 use Rattle.rules.specs.Channel.{Handed}
 use Rattle.window.specs.Window.{hand, Refills, unread}
 use Rattle.window.specs.declared.Refilled.{Refilled}
-use Rattle.training.specs.Table.{rowOctets}
-use Rattle.training.specs.Look.{handed, looked, ended}
-use Rattle.training.specs.declared.Check.{Check}
-use Rattle.training.specs.declared.Looked.{Looked}
-use Rattle.training.specs.declared.Verdict.{Verdict}
-use Rattle.training.specs.declared.Verdict.the-variants.{Passes}
-use Rattle.training.specs.declared.Wanted.the-variants as wanted
+use Rattle.table.specs.Table.{rowOctets}
+use Rattle.table.specs.Look.{handed, looked, ended}
+use Rattle.table.specs.declared.Check.{Check}
+use Rattle.table.specs.declared.Looked.{Looked}
+use Rattle.table.specs.declared.Verdict.{Verdict}
+use Rattle.table.specs.declared.Verdict.the-variants.{Passes}
+use Rattle.table.specs.declared.Wanted.the-variants as wanted
 use Rattle.audit_form.specs.Reads.{brought}
 use Rattle.audit_rows.specs.declared.Audit.{Audit}
 use Rattle.audit_rows.specs.declared.Turned.{Turned}

@@ -10,10 +10,10 @@ use Rattle.answer.specs.declared.Refusal.{Refusal}
 use Rattle.rules.specs.Channel.{Handed}
 use Rattle.session.specs.declared.StepAnswer.the-variants as answer
 use Rattle.window.specs.Window.{Refills}
-use Rattle.training.specs.Table.{rowOctets, rowsFrom, verdict}
-use Rattle.training.specs.Form.{known, started}
-use Rattle.training.specs.Look.{illFormed}
-use Rattle.training.specs.declared.Verdict.{Verdict}
+use Rattle.table.specs.Table.{rowOctets, rowsFrom, verdict}
+use Rattle.table.specs.Form.{known, started}
+use Rattle.table.specs.Look.{illFormed}
+use Rattle.table.specs.declared.Verdict.{Verdict}
 use Rattle.audit_rows.specs.Goes.{fresh, Going, Ending}
 use Rattle.audit_rows.specs.Frame.{handedBy}
 use Rattle.audit_rows.specs.declared.Audit.{Audit}

@@ -5,14 +5,14 @@ ghost use mathlib.Core.Path.{_≡_};
 ghost use mathlib.Core.Bool.{false};
 ghost use mathlib.Core.List.{[], _∷_};
 ghost use lib.ListN.{length};
-ghost use Rattle.training.specs.Look.{handed};
+ghost use Rattle.table.specs.Look.{handed};
 ghost use Rattle.audit_rows.specs.Goes.{fresh, stopped, Turns, Goes, Fills, Ends};
 ghost use Rattle.audit_rows.specs.Frame.{handedIn, handedBy};
 use session::StepAnswer;
-use training::Check;
-use training::Form;
-use training::Verdict;
-use training::Wanted;
+use table::Check;
+use table::Form;
+use table::Verdict;
+use table::Wanted;
 use window::Refilled;
 
 // Where the reading stands: the check, the octets of the rows from at up to end of a buffer, which are read and not yet used, whether it is

@@ -35,10 +35,10 @@ use Rattle.receiver.specs.declared.Receiver.{Receiver}
 use Rattle.receiver.specs.declared.Received.{Received}
 use Rattle.receiver.specs.declared.Event.{Event}
 use Rattle.receiver.specs.declared.Event.the-variants as event
-use Rattle.training.specs.Look.{handed, looked}
-use Rattle.training.specs.declared.Verdict.{Verdict}
-use Rattle.training.specs.declared.Check.{Check}
-use Rattle.training.specs.declared.Looked.{Looked}
+use Rattle.table.specs.Look.{handed, looked}
+use Rattle.table.specs.declared.Verdict.{Verdict}
+use Rattle.table.specs.declared.Check.{Check}
+use Rattle.table.specs.declared.Looked.{Looked}
 use Rattle.audit_rows.specs.Goes.{fresh, idle, Goes, Ends}
 use Rattle.audit_rows.proofs.Alike.{Alike, going-alike}
 use Rattle.audit_rows.specs.Frame.{handedFrom, handedIn, handedBy}

@@ -13,7 +13,7 @@ use Rattle.feed.specs.Pull.{fresh as freshFeed}
 use Rattle.feed.specs.declared.Pull.{Pull}
 use Rattle.feed.specs.declared.Pull.the-variants as pull
 use Rattle.feed.specs.declared.Pulled.{Pulled}
-use Rattle.training.specs.declared.Check.{Check}
+use Rattle.table.specs.declared.Check.{Check}
 use Rattle.audit_rows.specs.Goes.{fresh, Going, Ending}
 use Rattle.audit_rows.specs.Frame.{handedBy}
 use Rattle.audit_rows.specs.declared.Audit.{Audit}

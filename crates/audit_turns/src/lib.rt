@@ -7,7 +7,7 @@ use feed::Feed;
 use feed::Pull;
 use receiver::Receiver;
 use stretch::KEPT;
-use training::Check;
+use table::Check;
 use window::Refilled;
 
 // Where both readings stand, of the input and of the rows, what the last read of the input answered, whether they go on, and if not whether

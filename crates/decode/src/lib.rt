@@ -4,5 +4,5 @@ use libc::STDIN_FILENO;
 
 #[no_mangle]
 pub extern "C" fn ametzuko_decode() -> i32 {
-    lister::run(b"decode", STDIN_FILENO)
+    decode_run::run(b"decode", STDIN_FILENO)
 }

@@ -12,5 +12,5 @@ pub extern "C" fn ametzuko_decode_stream() -> i32 {
     if inputs::refused(b"decode", 1) {
         return window::BROKEN;
     }
-    lister::run_stream(b"decode", STDIN_FILENO, inputs::by_words(1))
+    decode_run::run_stream(b"decode", STDIN_FILENO, inputs::by_words(1))
 }

@@ -7,5 +7,5 @@ pub extern "C" fn ametzuko_export_kiss() -> i32 {
     let mut word = [0u8; 8];
     let n = os::arg(1, &mut word);
     let both = octets::same(octets::part(&word, 0, n), b"both");
-    exporter::run(b"export-kiss", STDIN_FILENO, both)
+    export_kiss_run::run(b"export-kiss", STDIN_FILENO, both)
 }

@@ -24,8 +24,8 @@ use Rattle.session.specs.declared.Session.{Session}
 use Rattle.session.proofs.Few.{offer-few}
 use Rattle.receiver.specs.Run.{roomy}
 use Rattle.receiver.specs.declared.Receiver.{Receiver}
-use Rattle.lines.specs.Text.{longestLine, header, badRecording}
-use Rattle.lines.proofs.Short.{lines-are-short}
+use Rattle.listing_lines.specs.Text.{longestLine, header, badRecording}
+use Rattle.listing_lines.proofs.Short.{lines-are-short}
 use Rattle.listing.specs.Listing.{packetsText, made, outcomeText}
 use Rattle.listing.specs.Contracts.{room, toCome}
 use Rattle.listing.specs.Next.{Next, receiver, here, behind, offering, bySection, sections, nextOf, Nexts, Stops, Part, NextsAreParts}

@@ -9,7 +9,7 @@ use Rattle.octets.specs.Pick.{pick}
 use Rattle.decimal.specs.Laid.{Puts}
 use Rattle.source.specs.Found.{cutAt}
 use Rattle.source.specs.declared.Source.{Source}
-use Rattle.lines.specs.Text.{longestLine, badRecording}
+use Rattle.listing_lines.specs.Text.{longestLine, badRecording}
 use Rattle.listing.specs.Contracts.{atEnd}
 
 either : {A : Type 0} (b : Bool) {x y z : A} → x ≡ y → x ≡ z → x ≡ pick b y z

@@ -21,7 +21,7 @@ use Rattle.session.specs.declared.Stepped.{Stepped}
 use Rattle.session.proofs.Few.{Few, offer-few}
 use Rattle.receiver.specs.Run.{roomy}
 use Rattle.receiver.proofs.Enough.{same-outcome}
-use Rattle.lines.specs.Text.{answerText}
+use Rattle.listing_lines.specs.Text.{answerText}
 use Rattle.listing.specs.Listing.{packetsText, made, outcomeText}
 use Rattle.listing.specs.Contracts.{cut, answered}
 

@@ -19,8 +19,8 @@ use Rattle.session.specs.declared.StepAnswer.{StepAnswer}
 use Rattle.session.specs.declared.StepAnswer.the-variants as steps
 use Rattle.decimal.specs.Laid.{Laid, Puts}
 use Rattle.decimal.proofs.Laid.{joined, resaid, laid-puts}
-use Rattle.lines.specs.Text.{longestLine, answerText, packetText}
-use Rattle.lines.proofs.Short.{lines-are-short}
+use Rattle.listing_lines.specs.Text.{longestLine, answerText, packetText}
+use Rattle.listing_lines.proofs.Short.{lines-are-short}
 use Rattle.listing.specs.Listing.{packetsText}
 use Rattle.listing.specs.Contracts.{room, cut, answered}
 

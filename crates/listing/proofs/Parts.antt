@@ -14,7 +14,7 @@ use Rattle.source.specs.declared.Taken.the-variants as taken
 use Rattle.source.specs.declared.Scanned.{Scanned}
 use Rattle.session.specs.Open.{opening}
 use Rattle.session.specs.declared.Session.{Session}
-use Rattle.lines.specs.Text.{header, badRecording}
+use Rattle.listing_lines.specs.Text.{header, badRecording}
 use Rattle.listing.specs.Listing.{made, outcomeText, itemsText, lastLine, listed}
 use Rattle.listing.specs.Contracts.{toCome}
 use Rattle.listing.specs.Next.{receiver}

@@ -22,7 +22,7 @@ use Rattle.source.proofs.Scanning.{scans-find}
 use Rattle.session.specs.Open.{opening}
 use Rattle.session.specs.declared.Session.{Session}
 use Rattle.receiver.specs.declared.Receiver.{Receiver}
-use Rattle.lines.specs.Text.{longestLine, header, badRecording}
+use Rattle.listing_lines.specs.Text.{longestLine, header, badRecording}
 use Rattle.listing.specs.Listing.{made, outcomeText}
 use Rattle.listing.specs.Contracts.{room}
 use Rattle.listing.specs.Next.{Next, receiver, here, behind, bySection, sections, nextOf, stopped, listedOf, Nexts}

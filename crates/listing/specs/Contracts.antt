@@ -10,7 +10,7 @@ use Rattle.source.specs.Found.{foundIn, cutAt}
 use Rattle.source.specs.declared.Source.{Source}
 use Rattle.session.specs.declared.Accepted.{Accepted}
 use Rattle.receiver.specs.declared.Receiver.{Receiver}
-use Rattle.lines.specs.Text.{longestLine, answerText, badRecording}
+use Rattle.listing_lines.specs.Text.{longestLine, answerText, badRecording}
 use Rattle.listing.specs.Listing.{listed, packetsText}
 
 -- The most octets that the lines of one frame take: its own and those of 16 packets.

@@ -14,7 +14,7 @@ use Rattle.session.specs.Step.{Outcome}
 use Rattle.session.specs.Statements.{offered}
 use Rattle.session.specs.declared.Session.{Session}
 use Rattle.receiver.specs.Run.{roomy}
-use Rattle.lines.specs.Text.{answerText, packetText, header, badRecording}
+use Rattle.listing_lines.specs.Text.{answerText, packetText, header, badRecording}
 
 -- A line for each packet.
 abbrev pub packetsText : List Handed → List ℕ

@@ -15,7 +15,7 @@ use Rattle.source.specs.declared.Taken.the-variants as taken
 use Rattle.session.specs.Open.{opening}
 use Rattle.session.specs.declared.Session.{Session}
 use Rattle.receiver.specs.declared.Receiver.{Receiver}
-use Rattle.lines.specs.Text.{header, badRecording}
+use Rattle.listing_lines.specs.Text.{header, badRecording}
 use Rattle.listing.specs.Listing.{made, outcomeText}
 use Rattle.listing.specs.Contracts.{room, toCome}
 use Rattle.listing.specs.declared.Listed.{Listed}

@@ -7,11 +7,11 @@ ghost use lib.ListN.{length, take};
 ghost use Rattle.decimal.specs.Laid.{Laid, Puts};
 ghost use Rattle.rules.specs.Packets.{total};
 ghost use Rattle.session.specs.Step.{told};
-ghost use Rattle.lines.specs.Text.{longestLine};
+ghost use Rattle.listing_lines.specs.Text.{longestLine};
 ghost use Rattle.listing.specs.Listing.{packetsText};
 ghost use Rattle.listing.specs.Contracts.{room, atEnd, answered, cut};
 ghost use Rattle.listing.specs.Next.{stopped, Nexts};
-use lines::LINE;
+use listing_lines::LINE;
 use packet::Packet;
 use receiver::Receiver;
 use session::Session;
@@ -83,13 +83,13 @@ pub fn next(receiver: Receiver, window: &[u8], kept: &mut [u8; KEPT], out: &mut 
             ),
             Taken::Over => return Listed::stopped(source, session, at, size, Stop::Over),
             Taken::Bad => {
-                let end = lines::bad_line(out, size);
+                let end = listing_lines::bad_line(out, size);
                 return Listed::stopped(source, session, at, end, Stop::Over);
             }
             Taken::Opened(t) => {
                 let opened = Session::open(t as u8, 0);
                 session = opened.session;
-                size = lines::header_line(out, size);
+                size = listing_lines::header_line(out, size);
                 at = behind;
                 continue;
             }
@@ -167,7 +167,7 @@ pub fn end(source: Source, out: &mut [u8], at: usize) -> usize
     ensures { λ r. ⌜ Puts longestLine (atEnd source) (now (out .entry)) at (now (out .exit)) r ⌝ }
 {
     if source.cut() {
-        return lines::bad_line(out, at);
+        return listing_lines::bad_line(out, at);
     }
     at
 }
@@ -190,7 +190,7 @@ fn frame_lines(
         (answered arrival (told answer) (now (octets .entry)) (now (lengths .entry)) (now (firsts .entry)))
         (now (out .entry)) used (now (out .exit)) r ⌝ }
 {
-    let next = lines::answer_line(out, used, arrival, answer);
+    let next = listing_lines::answer_line(out, used, arrival, answer);
     match answer {
         StepAnswer::Accepted(a) => {
             packet_lines(
@@ -232,7 +232,7 @@ fn packet_lines(
         let size = lengths[i];
         let first = firsts[i];
         let read = Packet::read(octets::part(octets, from, size as usize));
-        next = lines::packet_line(out, next, first, arrival, size, read);
+        next = listing_lines::packet_line(out, next, first, arrival, size, read);
         from += size as usize;
         i += 1;
     }

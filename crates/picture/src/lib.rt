@@ -12,7 +12,7 @@ pub extern "C" fn ametzuko_picture() -> i32 {
     let i = os::arg(1, &mut image);
     let f = os::arg(2, &mut form);
     let lines = octets::same(octets::part(&form, 0, f), b"lines");
-    pictures::run(
+    picture_run::run(
         b"picture",
         octets::part(&image, 0, i),
         lines,

@@ -9,7 +9,7 @@ pub extern "C" fn ametzuko_readings() -> i32 {
     if inputs::refused(b"readings", 2) {
         return window::BROKEN;
     }
-    reporter::run(
+    readings_run::run(
         b"readings",
         octets::part(&path, 0, n),
         STDIN_FILENO,

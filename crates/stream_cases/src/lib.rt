@@ -1,7 +1,7 @@
 // The readers of streams and their writers.
 use format_cases::frames;
 use format_cases::packets;
-use kiss_export::Exported;
+use kiss_writer::Exported;
 use records::input;
 use records::places;
 use records::text;
@@ -71,7 +71,7 @@ pub fn kiss_export(c: &[u8], out: &mut [u8]) {
     let lengths = input::words(input::block(c, places::PARTS));
     let n = input::room(c, places::LENGTHS, 65);
     let t = input::octet(c, places::T);
-    match kiss_export::write(t, input::block(c, places::INPUT), &lengths[..n], out) {
+    match kiss_writer::write(t, input::block(c, places::INPUT), &lengths[..n], out) {
         Exported::Length(length) => text::field(b"accepted length ", length as u64),
         Exported::Refused(r) => frames::refused(r),
     }

@@ -3,14 +3,14 @@ use Prim.Native.Nat.{ℕ, _+_}
 use mathlib.Core.Path.{_≡_, refl, sym, ap, subst, _∙_}
 use mathlib.Core.List.{List, [], _++_, append-assoc}
 use mathlib.Core.Bool.{true, false, true≢false}
-use Rattle.tally.specs.Count.{Tally}
+use Rattle.summary_lines.specs.Count.{Tally}
 use Rattle.window.specs.Window.{unread}
 use Rattle.window.specs.declared.Refilled.{Refilled}
 use Rattle.window.specs.Turns.{Turns, none, more, Made, Loops}
 use Rattle.window.proofs.Looping.{at-first, one-more}
-use Rattle.counting.specs.declared.State.{State}
-use Rattle.counting.specs.Lines.{countedText}
-use Rattle.counting.specs.Turns.{atLast, Turned}
+use Rattle.summary_count.specs.declared.State.{State}
+use Rattle.summary_count.specs.Lines.{countedText}
+use Rattle.summary_count.specs.Turns.{atLast, Turned}
 use Rattle.summary.specs.Turns.{Place, place, goingAt, TurnedAt, start, CountsAll}
 
 -- ---- the loop's invariant

@@ -3,12 +3,12 @@ use Prim.Native.Nat.{ℕ}
 use mathlib.Core.Path.{_≡_}
 use mathlib.Core.List.{List, [], _++_}
 use mathlib.Core.Bool.{Bool, true, false}
-use Rattle.tally.specs.Count.{Tally}
+use Rattle.summary_lines.specs.Count.{Tally}
 use Rattle.window.specs.Window.{unread}
 use Rattle.window.specs.Turns.{Loops}
-use Rattle.counting.specs.declared.State.{State}
-use Rattle.counting.specs.Lines.{countedText}
-use Rattle.counting.specs.Turns.{Turned}
+use Rattle.summary_count.specs.declared.State.{State}
+use Rattle.summary_count.specs.Lines.{countedText}
+use Rattle.summary_count.specs.Turns.{Turned}
 use Rattle.summary.specs.declared.Stopped.{Stopped}
 
 -- Where the loop stands: its state, the input, the counts, and all that was read.

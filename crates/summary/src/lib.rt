@@ -1,10 +1,10 @@
 // The program: a listing on standard input, its summary on standard output. The linker calls ametzuko_summary main, and what it answers is the
 // exit status.
-ghost use Rattle.tally.specs.Count.{tally};
+ghost use Rattle.summary_lines.specs.Count.{tally};
 ghost use Rattle.summary.specs.Turns.{Looped};
-use counting::State;
+use summary_count::State;
 use libc::STDIN_FILENO;
-use tally::counters;
+use summary_lines::counters;
 use window::Refilled;
 
 mod telling;
@@ -63,7 +63,7 @@ fn turns(input: &mut [u8], counts: &mut [u64], keys: &mut [u32], many: &mut [u64
         if made == TURNS {
             return Stopped { state, made };
         }
-        state = counting::turn(b"summary", STDIN_FILENO, input, counts, keys, many, state);
+        state = summary_count::turn(b"summary", STDIN_FILENO, input, counts, keys, many, state);
         made += 1;
     }
     Stopped { state, made }

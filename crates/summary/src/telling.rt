@@ -8,7 +8,7 @@ pub(crate) fn tell(counts: &[u64], keys: &[u32], many: &[u64], out: &mut [u8]) -
     let mut written = Written::none();
     let mut left: u64 = 18446744073709551615;
     while left > 0 {
-        let n = summing::put(counts, keys, many, skip, out);
+        let n = summary_text::put(counts, keys, many, skip, out);
         written = window::write(b"summary", out, n);
         if written.failed() | (n < out.len()) | (n == 0) {
             return written;

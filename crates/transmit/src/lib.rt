@@ -4,5 +4,5 @@ use libc::STDIN_FILENO;
 
 #[no_mangle]
 pub extern "C" fn ametzuko_transmit() -> i32 {
-    script::run(b"transmit", STDIN_FILENO)
+    transmit_run::run(b"transmit", STDIN_FILENO)
 }

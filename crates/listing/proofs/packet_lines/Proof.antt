@@ -8,7 +8,7 @@ use borrow.Author.Needs.{needs}
 use Rattle.packet.specs.Packet.{readPacket}
 use Rattle.decimal.specs.Laid.{Laid}
 use Rattle.decimal.proofs.Laid.{no-number, resaid}
-use Rattle.lines.specs.Text.{longestLine}
+use Rattle.listing_lines.specs.Text.{longestLine}
 use Rattle.listing.specs.Listing.{packetsText}
 use Rattle.rules.specs.Packets.{total}
 use Rattle.listing.specs.Contracts.{cut}

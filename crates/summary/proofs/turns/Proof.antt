@@ -3,7 +3,7 @@ use Prim.Native.Nat.{_-_, _≤_}
 use mathlib.Core.Path.{_≡_, refl, _∙_}
 use lib.ListN.{length}
 use denote.Ref.{now}
-use Rattle.tally.specs.Count.{tally}
+use Rattle.summary_lines.specs.Count.{tally}
 use Rattle.window.specs.Turns.{most}
 use Rattle.window.proofs.Looping.{stopped, all-made}
 use Rattle.summary.proofs.Counted.{Gone, not-gone, gone-on, begun}

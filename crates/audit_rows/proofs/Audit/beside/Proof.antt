@@ -3,7 +3,7 @@ use mathlib.Core.Path.{_≡_, refl, _∙_}
 use lib.ListN.{length}
 use borrow.Author.Needs.{needs}
 use borrow.Author.Tests.{not-true, not-false}
-use Rattle.training.specs.Look.{handed}
+use Rattle.table.specs.Look.{handed}
 use Rattle.audit_rows.proofs.Reading.{Beside, turnsLeft, no-turn, one-turn, all-turns, fewer-turns}
 use Rattle.audit_rows.proofs.Audit.beside.Statement.{statement}
 use Rattle.audit_rows.proofs.Audit.beside.Tie as tie

@@ -1,0 +1,15 @@
+pub mod Link
+pub mod Expected
+pub mod Delivered
+pub mod Run
+pub mod Demand
+pub mod Channels
+pub mod Further
+pub mod Corners
+pub mod Shams
+pub mod Witness
+pub mod MostLost
+pub mod MostHeaders
+pub mod Apart
+pub mod Returned
+pub mod Example

@@ -1,3 +1,0 @@
-pub mod Arrivals
-pub mod Returned
-pub mod Example

@@ -1,0 +1,98 @@
+-- `number` meets its contract.
+use Prim.Native.Nat.{ℕ}
+use mathlib.Core.Path.{ap, _∙_}
+use borrow.Author.Needs.{needs}
+use borrow.Author.Tests.{eq-eqb, ne-eqb}
+use Rattle.octets.proofs.Choices.{picked, passed}
+use Rattle.transmit_settings.specs.State.{onChannel, afterTelecommands, ofTime, withCommon, withMaster, withCount}
+use Rattle.transmit_settings.specs.Setting.{upTo, setNumber}
+use Rattle.transmit_settings.proofs.Setting.{narrow, here, past}
+use Rattle.transmit_settings.proofs.number.Statement.{statement}
+use Rattle.transmit_settings.proofs.number.Tie as tie
+
+returns : tie.Need-returns
+unfolding setNumber
+returns c =
+    here _ _ (c .before .before .same .ensures) (c .before .if1 .taken)
+    (c .up-to .ensures)
+
+returns-2 : tie.Need-returns-2
+unfolding setNumber
+returns-2 c =
+    past _ _ (c .before .before .before .before .before .before .before .before .same .ensures) (c .before .before .before .before .before .before .before .if1 .left)
+    (here _ _ (c .before .before .before .before .before .same2 .ensures) (c .before .before .before .before .if2 .taken)
+    (passed _ _ _ _ (ne-eqb _ _ (c .before .if3 .taken)) (c .stopped .ensures)))
+
+returns-3 : tie.Need-returns-3
+unfolding setNumber
+returns-3 c =
+    let a = c .before .before .before .before .before .before .before .before .before .before .before .before .args in
+    let s = a .state in
+    past _ _ (c .before .before .before .before .before .before .before .before .same .ensures) (c .before .before .before .before .before .before .before .if1 .left)
+    (here _ _ (c .before .before .before .before .before .same2 .ensures) (c .before .before .before .before .if2 .taken)
+    (c .up-to2 .ensures ∙ narrow (a .n) s (λ (x : ℕ). withCommon s (ofTime (s .common) x)) ∙ picked _ _ _ (eq-eqb _ _ (c .before .if3 .left))))
+
+returns-4 : tie.Need-returns-4
+unfolding setNumber
+returns-4 c =
+    let a = c .before .before .before .before .before .before .before .before .before .before .before .before .args in
+    let s = a .state in
+    past _ _ (c .before .before .before .before .before .before .before .before .same .ensures) (c .before .before .before .before .before .before .before .if1 .left)
+    (past _ _ (c .before .before .before .before .before .same2 .ensures) (c .before .before .before .before .if2 .left)
+    (here _ _ (c .before .before .same3 .ensures) (c .before .if4 .taken)
+    (c .up-to3 .ensures ∙ narrow (a .n) s (λ (x : ℕ). withCommon s (onChannel (s .common) x)))))
+
+returns-5 : tie.Need-returns-5
+unfolding setNumber
+returns-5 c =
+    let a = c .before .before .before .before .before .before .before .before .before .before .before .before .before .before .before .before .args in
+    let s = a .state in
+    past _ _ (c .before .before .before .before .before .before .before .before .before .before .before .before .same .ensures) (c .before .before .before .before .before .before .before .before .before .before .before .if1 .left)
+    (past _ _ (c .before .before .before .before .before .before .before .before .before .same2 .ensures) (c .before .before .before .before .before .before .before .before .if2 .left)
+    (past _ _ (c .before .before .before .before .before .before .same3 .ensures) (c .before .before .before .before .before .if4 .left)
+    (here _ _ (c .before .before .before .same4 .ensures) (c .before .before .if5 .taken)
+    (c .up-to4 .ensures ∙ ap (upTo 255 (a .n) s) (c .before .counted .ensures) ∙ narrow (a .n) s (withCount s)))))
+
+returns-6 : tie.Need-returns-6
+unfolding setNumber
+returns-6 c =
+    let a = c .before .before .before .before .before .before .before .before .before .before .before .before .before .before .before .before .before .before .args in
+    let s = a .state in
+    past _ _ (c .before .before .before .before .before .before .before .before .before .before .before .before .before .before .same .ensures) (c .before .before .before .before .before .before .before .before .before .before .before .before .before .if1 .left)
+    (past _ _ (c .before .before .before .before .before .before .before .before .before .before .before .same2 .ensures) (c .before .before .before .before .before .before .before .before .before .before .if2 .left)
+    (past _ _ (c .before .before .before .before .before .before .before .before .same3 .ensures) (c .before .before .before .before .before .before .before .if4 .left)
+    (past _ _ (c .before .before .before .before .before .same4 .ensures) (c .before .before .before .before .if5 .left)
+    (here _ _ (c .before .before .same5 .ensures) (c .before .if6 .taken)
+    (c .up-to5 .ensures ∙ narrow (a .n) s (withMaster s))))))
+
+returns-7 : tie.Need-returns-7
+unfolding setNumber
+returns-7 c =
+    let a = c .before .before .before .before .before .before .before .before .before .before .before .before .before .before .before .before .before .before .before .before .before .args in
+    let s = a .state in
+    past _ _ (c .before .before .before .before .before .before .before .before .before .before .before .before .before .before .before .before .before .same .ensures) (c .before .before .before .before .before .before .before .before .before .before .before .before .before .before .before .before .if1 .left)
+    (past _ _ (c .before .before .before .before .before .before .before .before .before .before .before .before .before .before .same2 .ensures) (c .before .before .before .before .before .before .before .before .before .before .before .before .before .if2 .left)
+    (past _ _ (c .before .before .before .before .before .before .before .before .before .before .before .same3 .ensures) (c .before .before .before .before .before .before .before .before .before .before .if4 .left)
+    (past _ _ (c .before .before .before .before .before .before .before .before .same4 .ensures) (c .before .before .before .before .before .before .before .if5 .left)
+    (past _ _ (c .before .before .before .before .before .same5 .ensures) (c .before .before .before .before .if6 .left)
+    (here _ _ (c .before .before .same6 .ensures) (c .before .if7 .taken)
+    (c .up-to6 .ensures ∙ narrow (a .n) s (λ (x : ℕ). withCommon s (afterTelecommands (s .common) x))))))))
+
+returns-8 : tie.Need-returns-8
+unfolding setNumber
+returns-8 c =
+    past _ _ (c .before .before .before .before .before .before .before .before .before .before .before .before .before .before .before .before .before .same .ensures) (c .before .before .before .before .before .before .before .before .before .before .before .before .before .before .before .before .if1 .left)
+    (past _ _ (c .before .before .before .before .before .before .before .before .before .before .before .before .before .before .same2 .ensures) (c .before .before .before .before .before .before .before .before .before .before .before .before .before .if2 .left)
+    (past _ _ (c .before .before .before .before .before .before .before .before .before .before .before .same3 .ensures) (c .before .before .before .before .before .before .before .before .before .before .if4 .left)
+    (past _ _ (c .before .before .before .before .before .before .before .before .same4 .ensures) (c .before .before .before .before .before .before .before .if5 .left)
+    (past _ _ (c .before .before .before .before .before .same5 .ensures) (c .before .before .before .before .if6 .left)
+    (past _ _ (c .before .before .same6 .ensures) (c .before .if7 .left)
+    (c .stopped2 .ensures))))))
+
+pub number-spec : {M : Type 1} → statement M
+number-spec =
+    tie.close
+    (tie.spec
+    (λ c. search needs) (λ c. search needs) (λ c κs. search needs) (λ c κs. search needs) returns (λ c. search needs) (λ c κs. search needs) (λ c κs. search needs) returns-2 (λ c κs. search needs) returns-3
+    (λ c. search needs) (λ c κs. search needs) (λ c κs. search needs) returns-4 (λ c. search needs) (λ c κs. search needs) (λ c κs. search needs) (λ c κs. search needs) returns-5
+    (λ c. search needs) (λ c κs. search needs) (λ c κs. search needs) returns-6 (λ c. search needs) (λ c κs. search needs) (λ c κs. search needs) returns-7 (λ c κs. search needs) returns-8)
