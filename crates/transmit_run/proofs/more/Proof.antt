@@ -7,7 +7,7 @@ use Rattle.transmit_run.proofs.more.Statement.{statement}
 use Rattle.transmit_run.proofs.more.Tie as tie
 
 returns : tie.Need-returns
-returns c = let a = c .before .before .before .before .args in fills-none (a .before) (now (a .script)) (c .before .before .if1 .taken) (c .none .ensures)
+returns c = let a = c .before .before .before .before .args in fills-none (a .before) (now (a .script)) (c .before .if1 .taken) (c .none .ensures)
 
 returns-2 : tie.Need-returns-2
 returns-2 c =
