@@ -1,3 +1,4 @@
-pub mod Splitting
-pub mod Turning
-pub mod Within
+pub mod Counting
+pub mod Handing
+pub mod Noting
+pub mod Unique

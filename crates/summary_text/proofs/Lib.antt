@@ -1,5 +1,6 @@
+pub mod Marks
+pub mod Refused
 pub mod Rising
-pub mod Saying
-pub mod Shown
+pub mod Texts
 pub mod Unique
 pub mod Whole

@@ -1,80 +1,88 @@
-// The summary of a listing as text, put into lent octets.
-ghost use Rattle.summary_text.specs.Page.{Shows, page, Says};
-ghost use Rattle.summary_text.specs.Text.{summaryOf, ofFrames, ofPackets, ofOthers};
-use summary_lines::counters;
+// The summary of what was received, as text and as CSV, put into lent octets.
+ghost use Rattle.summary_pen.specs.Page.{Shows, page, Says};
+ghost use Rattle.summary_pen.specs.Choice.{form};
+ghost use Rattle.summary_text.specs.Text.{whole, summaryOf, csvOf, ofFrames, ofPackets, ofOthers};
+use summary_count::counters;
+use summary_pen::forms;
+use summary_pen::pen::Pen;
 
 mod keys;
-mod pen;
-mod rows;
+mod walks;
 
-use pen::Pen;
-
-// Puts the summary from its index skip on to the start of out, as far as there is room, and answers how many octets that are.
+// Puts the summary as text from its index skip on to the start of out, as far as there is room, and answers how many octets that are.
 pub fn put(counts: &[u64], keys: &[u32], many: &[u64], skip: u64, out: &mut [u8]) -> usize
-    ensures { λ r. ⌜ Shows (summaryOf (now (counts .entry)) (now (keys .entry)) (now (many .entry))) skip (now (out .entry)) (now (out .exit)) r ⌝ }
+    ensures { λ r. ⌜ Shows (summaryOf (now (counts .entry)) (now (keys .entry)) (now (many .entry)))
+        skip (now (out .entry)) (now (out .exit)) r ⌝ }
 {
     let start = Pen { skip, at: 0 };
-    let frames = of_frames(out, start, counts);
-    let packets = of_packets(out, frames, counts, keys, many);
-    let end = of_others(out, packets, counts);
+    let end = all(out, start, false, counts, keys, many);
     end.at
 }
 
-// What is told of frames.
-fn of_frames(out: &mut [u8], start: Pen, counts: &[u64]) -> Pen
-    ensures { λ r. ⌜ Says (ofFrames (now (counts .entry))) (page (now (out .entry)) start) (page (now (out .exit)) r) ⌝ }
+// Puts the summary as CSV in the same way.
+pub fn put_csv(counts: &[u64], keys: &[u32], many: &[u64], skip: u64, out: &mut [u8]) -> usize
+    ensures { λ r. ⌜ Shows (csvOf (now (counts .entry)) (now (keys .entry)) (now (many .entry)))
+        skip (now (out .entry)) (now (out .exit)) r ⌝ }
 {
-    let accepted = rows::of(counts, counters::ACCEPTED);
-    let refused = rows::of(counts, counters::REFUSED);
-    let lost = rows::of(counts, counters::LOST);
-    let unknown = rows::of(counts, counters::UNKNOWN);
-    let all = rows::both(
-        out,
-        start,
-        b"frames ",
-        b": accepted ",
-        b", refused ",
-        accepted,
-        refused,
-    );
-    let refusals = rows::refusals(out, all, counts, b"refused with ", counters::REFUSED_WITH);
-    let channels = rows::channels(out, refusals, counts);
-    rows::over_all(out, channels, accepted, lost, unknown)
+    let top = Pen { skip, at: 0 };
+    let end = all(out, top, true, counts, keys, many);
+    end.at
+}
+
+// The whole summary.
+fn all(out: &mut [u8], start: Pen, csv: bool, counts: &[u64], keys: &[u32], many: &[u64]) -> Pen
+    ensures { λ r. ⌜ Says (whole (form csv) (now (counts .entry)) (now (keys .entry)) (now (many .entry)))
+        (page (now (out .entry)) start) (page (now (out .exit)) r) ⌝ }
+{
+    let begun = forms::begin(out, start, csv);
+    let frames = of_frames(out, begun, csv, counts);
+    let packets = of_packets(out, frames, csv, counts, keys, many);
+    of_others(out, packets, csv, counts)
+}
+
+// What is told of frames.
+fn of_frames(out: &mut [u8], start: Pen, csv: bool, counts: &[u64]) -> Pen
+    ensures { λ r. ⌜ Says (ofFrames (form csv) (now (counts .entry))) (page (now (out .entry)) start) (page (now (out .exit)) r) ⌝ }
+{
+    let accepted = walks::of(counts, counters::ACCEPTED);
+    let refused = walks::of(counts, counters::REFUSED);
+    let lost = walks::of(counts, counters::LOST);
+    let unknown = walks::of(counts, counters::UNKNOWN);
+    let frames = forms::frames(out, start, csv, accepted, refused);
+    let refusals = walks::refused(out, frames, csv, counts);
+    let channels = walks::channels(out, refusals, csv, counts);
+    forms::over_all(out, channels, csv, accepted, lost, unknown)
 }
 
 // What is told of packets.
-fn of_packets(out: &mut [u8], start: Pen, counts: &[u64], keys: &[u32], many: &[u64]) -> Pen
-    ensures { λ r. ⌜ Says (ofPackets (now (counts .entry)) (now (keys .entry)) (now (many .entry))) (page (now (out .entry)) start) (page (now (out .exit)) r) ⌝ }
+fn of_packets(
+    out: &mut [u8],
+    start: Pen,
+    csv: bool,
+    counts: &[u64],
+    keys: &[u32],
+    many: &[u64],
+) -> Pen
+    ensures { λ r. ⌜ Says (ofPackets (form csv) (now (counts .entry)) (now (keys .entry)) (now (many .entry)))
+        (page (now (out .entry)) start) (page (now (out .exit)) r) ⌝ }
 {
-    let read = rows::of(counts, counters::PACKETS);
-    let away = rows::of(counts, counters::AWAY);
-    let unlisted = rows::of(counts, counters::UNLISTED);
-    let all = rows::both(
-        out,
-        start,
-        b"packets ",
-        b": read ",
-        b", turned away ",
-        read,
-        away,
-    );
-    let listed = keys::listed(out, all, keys, many);
-    let others = rows::count(out, listed, b"other packets: ", unlisted);
-    rows::refusals(
-        out,
-        others,
-        counts,
-        b"turned away with ",
-        counters::AWAY_WITH,
-    )
+    let read = walks::of(counts, counters::PACKETS);
+    let away = walks::of(counts, counters::AWAY);
+    let unlisted = walks::of(counts, counters::UNLISTED);
+    let packets = forms::packets(out, start, csv, read, away);
+    let listed = keys::listed(out, packets, csv, keys, many);
+    let others = forms::others(out, listed, csv, unlisted);
+    walks::away(out, others, csv, counts)
 }
 
-// What is told of other lines.
-fn of_others(out: &mut [u8], start: Pen, counts: &[u64]) -> Pen
-    ensures { λ r. ⌜ Says (ofOthers (now (counts .entry))) (page (now (out .entry)) start) (page (now (out .exit)) r) ⌝ }
+// What is told of APIDs, of images and of the recording.
+fn of_others(out: &mut [u8], start: Pen, csv: bool, counts: &[u64]) -> Pen
+    ensures { λ r. ⌜ Says (ofOthers (form csv) (now (counts .entry))) (page (now (out .entry)) start) (page (now (out .exit)) r) ⌝ }
 {
-    let others = rows::of(counts, counters::OTHER);
-    let bad = rows::of(counts, counters::BAD);
-    let next = rows::count(out, start, b"lines that are none of a listing: ", others);
-    rows::if_any(out, next, bad, b"bad recording\n")
+    let unplaced = walks::of(counts, counters::UNPLACED);
+    let bad = walks::of(counts, counters::BAD);
+    let apids = walks::apids(out, start, csv, counts);
+    let images = walks::images(out, apids, csv, counts);
+    let lines = forms::other_lines(out, images, csv, unplaced);
+    forms::bad(out, lines, csv, bad)
 }

@@ -1,4 +1,0 @@
-pub mod Back
-pub mod Cases
-pub mod Counting
-pub mod Unique

@@ -1,4 +1,0 @@
-pub mod Back
-pub mod Counters
-pub mod Count
-pub mod Line

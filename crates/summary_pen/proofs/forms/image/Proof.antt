@@ -1,0 +1,24 @@
+-- `summary_pen::forms::image` meets its contract.
+use Rattle.summary_pen.proofs.Saying.{none-said}
+use Rattle.summary_pen.proofs.InForm.{image-csv, image-text}
+use borrow.Author.Needs.{needs}
+use Rattle.summary_pen.proofs.forms.image.Statement.{statement}
+use Rattle.summary_pen.proofs.forms.image.Tie as tie
+
+returns : tie.Need-returns
+returns c = search (none-said, needs)
+
+returns-2 : tie.Need-returns-2
+returns-2 c = search (image-csv, needs)
+
+returns-3 : tie.Need-returns-3
+returns-3 c = search (image-text, needs)
+
+pub image-spec : {M : Type 1} → statement M
+image-spec =
+    tie.close
+    (tie.spec
+    returns (λ c. search needs) (λ c. search needs) (λ c. search needs)
+    (λ c κs. search needs) (λ c. search needs) returns-2 (λ c. search needs)
+    (λ c κs. search needs) (λ c. search needs) (λ c κs. search needs) (λ c. search needs) (λ c κs. search needs)
+    (λ c. search needs) returns-3)
