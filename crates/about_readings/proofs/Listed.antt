@@ -1,49 +1,37 @@
--- What a run adds is what the session hands out.
-use Prim.Native.Nat.{ℕ, suc, _+_, _-_, _≤_, _<_, _%_, _^_}
+-- What the packets of one call add, each in its place, by what a receiver tells.
+use Prim.Native.Nat.{ℕ, suc, _+_, _-_, _<_, _%_, _^_}
 use native.Mathlib.Omega.{arith}
-use native.Mathlib.Nat.{mod-lt, mod-eq-of-lt, add-zero}
-use native.Mathlib.Numerals.{add-one}
+use native.Mathlib.Nat.{mod-eq-of-lt, add-zero}
 use mathlib.Core.Path.{_≡_, refl, sym, ap, subst, _∙_}
-use mathlib.Core.Bool.{Bool, true, false}
 use mathlib.Core.List.{List, [], _∷_, _++_, map, append-nil, append-assoc}
-use lib.ListN.{length, take, drop, length-append, length-drop}
+use lib.ListN.{length, take, drop, length-append}
 use lib.Seq.{take-at, drop-at}
 use Rattle.octets.specs.Numbers.{at}
-use Rattle.octets.specs.Parts.{part, written}
+use Rattle.octets.specs.Parts.{part}
 use Rattle.octets.specs.Pick.{pick}
 use Rattle.octets.proofs.Placing.{part-some}
-use Rattle.answer.specs.Told.{Told}
-use Rattle.stretch.specs.Stretch.{Stretch, found, unread}
+use Rattle.stretch.specs.Stretch.{found, unread}
 use Rattle.rules.specs.Channel.{Handed}
 use Rattle.rules.specs.Packets.{bare, joined, firsts}
 use Rattle.rules.specs.Bounds.{Under}
-use Rattle.source.specs.Found.{Item, opens, offers, Found, foundIn}
-use Rattle.source.specs.Scan.{scanned, keptBy, tells, Waits, Finds}
-use Rattle.source.proofs.Scanning.{scans-find}
-use Rattle.source.specs.declared.Source.{Source}
+use Rattle.source.specs.Scan.{tells}
 use Rattle.source.specs.declared.Taken.{Taken}
 use Rattle.source.specs.declared.Taken.the-variants as taken
-use Rattle.session.specs.Lent.{Lent, Enough, laid}
+use Rattle.session.specs.Lent.{Lent, laid}
 use Rattle.session.specs.Step.{Outcome}
-use Rattle.session.specs.Statements.{offered}
 use Rattle.session.specs.declared.Accepted.{Accepted}
 use Rattle.session.specs.declared.Session.{Session}
 use Rattle.session.specs.declared.StepAnswer.{StepAnswer}
 use Rattle.session.specs.declared.StepAnswer.the-variants as answer
 use Rattle.session.proofs.Few.{Few, offer-few}
-use Rattle.receiver.specs.Receive.{Tells, missing, bad, over, opened, nothing, answered, toldOf, heard, received, Receives}
-use Rattle.receiver.specs.Run.{roomy}
-use Rattle.receiver.specs.declared.Receiver.{Receiver}
-use Rattle.receiver.specs.declared.Received.{Received}
+use Rattle.receiver.specs.Receive.{Tells, missing, bad, over, opened, nothing, answered, toldOf, heard}
 use Rattle.receiver.specs.declared.Event.{Event}
 use Rattle.receiver.specs.declared.Event.the-variants as event
-use Rattle.receiver.proofs.Enough.{same-outcome}
-use Rattle.telling.specs.Counts.{counted}
 use Rattle.readings_lines.specs.Lines.{Added, adding}
 use Rattle.readings_frame.specs.Readings.{Layouts, handedAs, packetAdds, packetStart, numbered, packetOf, packetsAdd, frameAdds}
 use Rattle.readings_frame.specs.Readings.{Handed as Reading}
-use Rattle.readings_turn.specs.Turns.{answerAdds, answerHands, eventAdds, eventHands, Run, starts, reads, takes}
-use Rattle.about_readings.specs.Listed.{asHanded, behind, handedAdd, stepAdds, itemsAdd, toAdd, RunsAreListed}
+use Rattle.readings_turn.specs.Turns.{answerAdds, answerHands, eventAdds, eventHands}
+use Rattle.about_readings.specs.Listed.{asHanded, behind, handedAdd, stepAdds}
 
 -- ---- a packet in its place
 
@@ -154,7 +142,7 @@ module _ (l : Layouts) (a : Accepted) (ps : List Handed) (u : Under (a .arrival)
 
 -- ---- by what a receiver tells
 
-abbrev Few-told : Tells → List Handed → Type 0
+abbrev pub Few-told : Tells → List Handed → Type 0
 Few-told (missing n) ps = Unit {0}
 Few-told bad ps = Unit {0}
 Few-told over ps = Unit {0}
@@ -165,7 +153,7 @@ Few-told (answered t) ps = (t .fields .packets ≡ length ps) × Under (t .field
 few-of : (o : Outcome) → Few o → Few-told (answered (o .answer)) (o .packets)
 few-of o f = (f .count, f .under)
 
-heard-few : (z : Session) (kept w : List ℕ) (l : Lent) (t : Taken) → Few-told (heard z kept w l t .tells) (heard z kept w l t .packets)
+pub heard-few : (z : Session) (kept w : List ℕ) (l : Lent) (t : Taken) → Few-told (heard z kept w l t .tells) (heard z kept w l t .packets)
 heard-few z kept w l (taken.Missing n) = tt
 heard-few z kept w l taken.Bad = tt
 heard-few z kept w l taken.Over = tt
@@ -175,7 +163,7 @@ heard-few z kept w l (taken.Here from to) = few-of _ (offer-few z (found (take (
 heard-few z kept w l (taken.Kept n) = few-of _ (offer-few z (found (take n kept)) l)
 heard-few z kept w l (taken.Refused n) = few-of _ (offer-few z (unread n) l)
 
-abbrev tellsAdd : Layouts → Tells → List Handed → ℕ → List ℕ → Added
+abbrev pub tellsAdd : Layouts → Tells → List Handed → ℕ → List ℕ → Added
 tellsAdd l (missing n) ps packets counts = adding [] counts
 tellsAdd l bad ps packets counts = adding [] counts
 tellsAdd l over ps packets counts = adding [] counts
@@ -183,7 +171,7 @@ tellsAdd l opened ps packets counts = adding [] counts
 tellsAdd l nothing ps packets counts = adding [] counts
 tellsAdd l (answered t) ps packets counts = stepAdds l t ps packets counts
 
-abbrev tellsNext : Tells → List Handed → ℕ → ℕ
+abbrev pub tellsNext : Tells → List Handed → ℕ → ℕ
 tellsNext (missing n) ps packets = packets
 tellsNext bad ps packets = packets
 tellsNext over ps packets = packets
@@ -198,7 +186,7 @@ unfolding pick
 answer-adds l ps t packets counts (answer.Accepted a) f = frame-adds l a ps (f .1) t packets counts (f .0)
 answer-adds l ps t packets counts (answer.Refused r) f = refl
 
-event-adds : (l : Layouts) (ps : List Handed) (t : Lent) (packets : ℕ) (counts : List ℕ) (e : Event) → Few-told (toldOf e) ps
+pub event-adds : (l : Layouts) (ps : List Handed) (t : Lent) (packets : ℕ) (counts : List ℕ) (e : Event) → Few-told (toldOf e) ps
     → eventAdds l e (laid ps t) packets counts ≡ tellsAdd l (toldOf e) ps packets counts
 event-adds l ps t packets counts (event.Missing n) f = refl
 event-adds l ps t packets counts event.Bad f = refl
@@ -215,7 +203,7 @@ answer-next : (ps : List Handed) (packets : ℕ) (x : StepAnswer) → Few-told (
 answer-next ps packets (answer.Accepted a) f = ap (numbered packets) (f .0)
 answer-next ps packets (answer.Refused r) f = ap (numbered packets) (f .0)
 
-event-next : (ps : List Handed) (packets : ℕ) → packets < 2 ^ 64 → (e : Event) → Few-told (toldOf e) ps
+pub event-next : (ps : List Handed) (packets : ℕ) → packets < 2 ^ 64 → (e : Event) → Few-told (toldOf e) ps
     → numbered packets (eventHands e) ≡ tellsNext (toldOf e) ps packets
 event-next ps packets h (event.Missing n) f = none-more packets h
 event-next ps packets h event.Bad f = none-more packets h
@@ -223,142 +211,3 @@ event-next ps packets h event.Over f = none-more packets h
 event-next ps packets h event.Opened f = none-more packets h
 event-next ps packets h event.Nothing f = none-more packets h
 event-next ps packets h (event.Answered x) f = answer-next ps packets x f
-
--- ---- a call, and then the rest
-
-after : (l : Layouts) (packets : ℕ) (counts : List ℕ) (rest : List Item) → Tells → List Handed → Session → Added
-after l packets counts rest t ps z = behind (tellsAdd l t ps packets counts .text)
-    (itemsAdd l z (tellsNext t ps packets) (tellsAdd l t ps packets counts .counts) rest)
-
-one-more : (l : Layouts) (packets : ℕ) (counts : List ℕ) (z : Session) (t : Lent) → Enough t → (x : Stretch) (rest : List Item)
-    → itemsAdd l z packets counts (offers x ∷ rest) ≡ after l packets counts rest (answered (offered z x t .answer))
-    (offered z x t .packets) (offered z x t .session)
-unfolding after
-one-more l packets counts z t e x rest =
-    ap (λ (o : Outcome). behind (stepAdds l (o .answer) (o .packets) packets counts .text)
-    (itemsAdd l (o .session) (numbered packets (length (o .packets))) (stepAdds l (o .answer) (o .packets) packets counts .counts) rest))
-    (sym (same-outcome z x t e))
-
-by-taken : (l : Layouts) (packets : ℕ) (counts : List ℕ) (z : Session) (kept w : List ℕ) (t : Lent) → Enough t
-    → (k : Taken) (rest : List Item)
-    → itemsAdd l z packets counts (tells k kept w .items ++ rest) ≡ after l packets counts rest (heard z kept w t k .tells)
-    (heard z kept w t k .packets) (heard z kept w t k .session)
-unfolding after
-by-taken l packets counts z kept w t e (taken.Missing n) rest = refl
-by-taken l packets counts z kept w t e taken.Bad rest = refl
-by-taken l packets counts z kept w t e taken.Over rest = refl
-by-taken l packets counts z kept w t e (taken.Opened n) rest = refl
-by-taken l packets counts z kept w t e taken.Nothing rest = refl
-by-taken l packets counts z kept w t e (taken.Here from to) rest = one-more l packets counts z t e
-    (found (take (to - from) (drop from w))) rest
-by-taken l packets counts z kept w t e (taken.Kept n) rest = one-more l packets counts z t e (found (take n kept)) rest
-by-taken l packets counts z kept w t e (taken.Refused n) rest = one-more l packets counts z t e (unread n) rest
-
-finds : (s : Source) (kept w : List ℕ) → Finds s kept w (scanned s kept w) (keptBy s kept w)
-finds s kept w = scans-find .finds (record { answers = refl; keeps = refl })
-
-module _ (l : Layouts) (a : Receiver) (kept w : List ℕ) {t t′ : Lent} {r : Received} {kept′ : List ℕ}
-    (c : Receives a kept w t r kept′ t′) (enough : Enough t) (packets : ℕ) (small : packets < 2 ^ 64)
-    (counts : List ℕ) where
-  abbrev ps : List Handed
-  ps = received a kept w t .packets
-
-  few : Few-told (toldOf (r .event)) ps
-  unfolding received
-  few = subst (λ (x : Tells). Few-told x ps) (sym (c .tells))
-      (heard-few (a .session) (keptBy (a .source) kept w) w t (scanned (a .source) kept w .taken))
-
-  same-adds : eventAdds l (r .event) t′ packets counts ≡ tellsAdd l (received a kept w t .tells) ps packets counts
-  same-adds =
-      ap (λ (x : Lent). eventAdds l (r .event) x packets counts) (c .leaves)
-      ∙ event-adds l ps t packets counts (r .event) few
-      ∙ ap (λ (x : Tells). tellsAdd l x ps packets counts) (c .tells)
-
-  same-next : numbered packets (eventHands (r .event)) ≡ tellsNext (received a kept w t .tells) ps packets
-  same-next = event-next ps packets small (r .event) few ∙ ap (λ (x : Tells). tellsNext x ps packets) (c .tells)
-
-  part-of : (p : List ℕ) → toAdd l a kept (w ++ p) packets counts ≡ after l packets counts
-      (foundIn (r .receiver .source) kept′ (drop (r .used) w ++ p) .items)
-      (received a kept w t .tells) ps (r .receiver .session)
-  unfolding received
-  part-of p =
-      ap (λ (f : Found). itemsAdd l (a .session) packets counts (f .items)) (finds (a .source) kept w .next p)
-      ∙ by-taken l packets counts (a .session) (keptBy (a .source) kept w) w t enough (scanned (a .source) kept w .taken) _
-      ∙ sym
-      (ap (λ (k : List ℕ). after l packets counts (foundIn (r .receiver .source) k (drop (r .used) w ++ p) .items)
-      (received a kept w t .tells) ps (r .receiver .session)) (c .keeps)
-      ∙ ap (λ (n : ℕ). after l packets counts (foundIn (r .receiver .source) (received a kept w t .kept) (drop n w ++ p) .items)
-      (received a kept w t .tells) ps (r .receiver .session)) (c .used)
-      ∙ ap (λ (b : Receiver). after l packets counts
-      (foundIn (b .source) (received a kept w t .kept) (drop (received a kept w t .used) w ++ p) .items)
-      (received a kept w t .tells) ps (b .session)) (c .receiver))
-
-  next-part : (p : List ℕ) → toAdd l a kept (w ++ p) packets counts
-      ≡ behind (eventAdds l (r .event) t′ packets counts .text)
-      (toAdd l (r .receiver) kept′ (drop (r .used) w ++ p) (numbered packets (eventHands (r .event)))
-      (eventAdds l (r .event) t′ packets counts .counts))
-  unfolding after
-  next-part p =
-      part-of p
-      ∙ ap (λ (x : Added). behind (x .text)
-      (toAdd l (r .receiver) kept′ (drop (r .used) w ++ p) (tellsNext (received a kept w t .tells) ps packets) (x .counts)))
-      (sym same-adds)
-      ∙ ap (λ (n : ℕ). behind (eventAdds l (r .event) t′ packets counts .text)
-      (toAdd l (r .receiver) kept′ (drop (r .used) w ++ p) n (eventAdds l (r .event) t′ packets counts .counts))) (sym same-next)
-
--- ---- a run
-
-longer : (s l : List ℕ) → length l ≤ length (written s l)
-longer s l = omega (arith, length-append s (drop (length s) l), length-drop (length s) l)
-
-still-enough : (ps : List Handed) (l : Lent) → Enough l → Enough (laid ps l)
-still-enough ps l e = record {
-  octets = omega (arith, e .octets, longer (joined (bare ps)) (l .octets));
-  lengths = omega (arith, e .lengths, longer (map length (bare ps)) (l .lengths));
-  firsts = omega (arith, e .firsts, longer (firsts ps) (l .firsts));
-}
-
-module _ {l : Layouts} {a₀ : Receiver} {kept₀ counts₀ : List ℕ} {packets₀ : ℕ} {t₀ : Lent} (enough : Enough t₀)
-    (small : packets₀ < 2 ^ 64) where
-  room : {octets text counts : List ℕ} {packets : ℕ} {a : Receiver} {kept w : List ℕ} {t : Lent}
-      → Run l a₀ kept₀ counts₀ packets₀ t₀ octets text counts packets a kept w t → Enough t
-  room starts = enough
-  room (reads piece run) = room run
-  room (takes {a = a} {kept} {w} {t} r kept′ t′ g run) = subst Enough (sym (g .leaves))
-      (still-enough (received a kept w t .packets) t (room run))
-
-  few-numbers : {octets text counts : List ℕ} {packets : ℕ} {a : Receiver} {kept w : List ℕ} {t : Lent}
-      → Run l a₀ kept₀ counts₀ packets₀ t₀ octets text counts packets a kept w t → packets < 2 ^ 64
-  few-numbers starts = small
-  few-numbers (reads piece run) = few-numbers run
-  few-numbers (takes {packets = packets} r kept′ t′ g run) = mod-lt (packets + eventHands (r .event)) (omega arith)
-
-  first : {octets text counts : List ℕ} {packets : ℕ} {a : Receiver} {kept w : List ℕ} {t : Lent}
-      → Run l a₀ kept₀ counts₀ packets₀ t₀ octets text counts packets a kept w t
-      → (p : List ℕ) → toAdd l a₀ kept₀ (octets ++ p) packets₀ counts₀ ≡ behind text (toAdd l a kept (w ++ p) packets counts)
-  first starts p = refl
-  first (reads {octets = octets} {text} {counts} {packets} {a} {kept} {w} piece run) p =
-      ap (λ (x : List ℕ). toAdd l a₀ kept₀ x packets₀ counts₀) (append-assoc octets piece p)
-      ∙ first run (piece ++ p)
-      ∙ ap (λ (x : List ℕ). behind text (toAdd l a kept x packets counts)) (sym (append-assoc w piece p))
-  first (takes {text = text} {counts} {packets} {a} {kept} {w} {t} r kept′ t′ g run) p =
-      let said : List ℕ = eventAdds l (r .event) t′ packets counts .text in
-      let rest : Added = toAdd l (r .receiver) kept′ (drop (r .used) w ++ p) (numbered packets (eventHands (r .event)))
-      (eventAdds l (r .event) t′ packets counts .counts) in
-      first run p
-      ∙ ap (behind text) (next-part l a kept w g (room run) packets (few-numbers run) counts p)
-      ∙ ap (λ (x : List ℕ). adding x (rest .counts)) (sym (append-assoc text said (rest .text)))
-
-  prompt : {octets text counts : List ℕ} {packets : ℕ} {a : Receiver} {kept w : List ℕ} {t : Lent}
-      → Run l a₀ kept₀ counts₀ packets₀ t₀ octets text counts packets a kept w t
-      → (n : ℕ) → Waits (a .source) kept w n → adding text counts ≡ toAdd l a₀ kept₀ octets packets₀ counts₀
-  prompt {octets} {text} {counts} {packets} {a} {kept} {w} run n h =
-      sym
-      (ap (λ (x : List ℕ). toAdd l a₀ kept₀ x packets₀ counts₀) (sym (append-nil octets))
-      ∙ first run []
-      ∙ ap (λ (x : List ℕ). behind text (toAdd l a kept x packets counts)) (append-nil w)
-      ∙ ap (λ (f : Found). behind text (itemsAdd l (a .session) packets counts (f .items))) (h .none)
-      ∙ ap (λ (x : List ℕ). adding x counts) (append-nil text))
-
-pub runs-are-listed : RunsAreListed
-runs-are-listed = record { first = λ run e s. first e s run; prompt = λ run e s. prompt e s run }

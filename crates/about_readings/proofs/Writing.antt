@@ -1,5 +1,5 @@
 -- All that is handed to the write is the header and the lines of what the octets hand out.
-use Prim.Native.Nat.{ℕ, suc, _+_, _≤_, _<_, _^_}
+use Prim.Native.Nat.{ℕ, _≤_, _<_, _^_}
 use native.Mathlib.Omega.{arith}
 use mathlib.Core.Path.{_≡_, refl, sym, ap, subst, _∙_}
 use mathlib.Core.Bool.{Bool, true, false, not, true≢false, _||_}
@@ -8,7 +8,6 @@ use lib.Dec.{eqb}
 use lib.ListN.{length, take, drop}
 use borrow.Author.Tests.{eqb-true}
 use Rattle.octets.specs.Pick.{pick}
-use Rattle.octets.proofs.Choices.{picks}
 use Rattle.octets.proofs.Tests.{or-left, or-right}
 use Rattle.readings_csv.specs.Text.{header, longestLine}
 use Rattle.source.specs.Found.{Item, Found, foundIn, cutAt}
@@ -29,27 +28,23 @@ use Rattle.receiver.specs.declared.Event.{Event}
 use Rattle.receiver.specs.declared.Event.the-variants as event
 use Rattle.receiver.proofs.Enough.{roomy-enough}
 use Rattle.window.specs.Turns.{Turns, none, more}
-use Rattle.window.specs.Window.{unread}
 use Rattle.window.specs.declared.Refilled.{Refilled}
-use Rattle.feed.specs.Pull.{handOf, atEnd, pulled, Missed, Pulls}
+use Rattle.feed.specs.Pull.{handOf, atEnd, pulled, Missed}
 use Rattle.feed.specs.declared.Pull.{Pull}
 use Rattle.feed.specs.declared.Pull.the-variants as pull
-use Rattle.feed.specs.declared.Pulled.{Pulled}
-use Rattle.readings_lines.specs.Output.{pending, failedIn, Heads, Empties}
+use Rattle.readings_lines.specs.Output.{pending, failedIn}
 use Rattle.readings_lines.specs.Lines.{Added, adding}
 use Rattle.readings_lines.specs.declared.Output.{Output}
 use Rattle.readings_lines.proofs.Adding.{emptied-size, was-right, put-behind}
-use Rattle.readings_frame.specs.Readings.{Layouts, Begins, Writes}
+use Rattle.readings_frame.specs.Readings.{Layouts}
 use Rattle.readings_frame.specs.declared.State.{State}
-use Rattle.readings_turn.specs.Turns.{pullAdds, mayFollow, goesOn, Run, starts, Turned, handedBy}
+use Rattle.readings_turn.specs.Turns.{pullAdds, mayFollow, goesOn, Run, starts}
 use Rattle.about_readings.specs.Listed.{behind, itemsAdd, toAdd}
-use Rattle.readings_turn.specs.Written.{Place, placeOf, goingAt, TurnedAt, begins, noneKept, startOf, Looped, withState, Reported}
-use Rattle.readings_turn.specs.Written.{handedOn, notDone}
-use Rattle.about_readings.specs.Written.{Readings, WritesReadings}
+use Rattle.readings_turn.specs.Written.{Place, goingAt, TurnedAt, begins, noneKept, startOf}
+use Rattle.about_readings.specs.Written.{WritesReadings}
 use Rattle.readings_turn.specs.declared.Standing.{Standing}
-use Rattle.readings_turn.specs.declared.Stopped.{Stopped}
 use Rattle.readings_turn.proofs.Turning.{turns-go-on}
-use Rattle.about_readings.proofs.Listed.{runs-are-listed}
+use Rattle.about_readings.proofs.Runs.{runs-are-listed}
 
 -- ---- where the turns end nothing more is found
 

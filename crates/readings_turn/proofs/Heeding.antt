@@ -73,14 +73,16 @@ module _ (l : Layouts) {octets lengths firsts out counts : List ℕ} {s : State}
   quiet-heeded pull.Failed k h = record { packets = same-number h; leaves = nothing-put refl }
 
   module _ {p : Pull} {x : StepAnswer} (e : p ≡ pull.Answered x) where
-    pub refused-heeded : {r : Refusal} {counts′ : List ℕ} → x ≡ answer.Refused r → counts′ ≡ counted counts (r .number) → s .packets < 2 ^ 64
+    pub refused-heeded : {r : Refusal} {counts′ : List ℕ} → x ≡ answer.Refused r → counts′ ≡ counted counts (r .number)
+        → s .packets < 2 ^ 64
         → Heeds l p (lent octets lengths firsts) out counts s out counts′ s
     refused-heeded {r} {counts′} k c h =
         subst (λ (q : Pull). Heeds l q (lent octets lengths firsts) out counts s out counts′ s) (sym (e ∙ ap pull.Answered k))
         (record { packets = same-number h; leaves = nothing-put c })
 
     pub accepted-heeded : {a : Accepted} {out′ counts′ : List ℕ} {s′ : State} → x ≡ answer.Accepted a
-        → Framed l a octets lengths firsts out counts s out′ counts′ s′ → Heeds l p (lent octets lengths firsts) out counts s out′ counts′ s′
+        → Framed l a octets lengths firsts out counts s out′ counts′ s′
+        → Heeds l p (lent octets lengths firsts) out counts s out′ counts′ s′
     accepted-heeded {a} {out′} {counts′} {s′} k f =
         subst (λ (q : Pull). Heeds l q (lent octets lengths firsts) out counts s out′ counts′ s′) (sym (e ∙ ap pull.Answered k))
         (record { packets = f .packets; leaves = f .leaves })

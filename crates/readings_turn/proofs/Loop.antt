@@ -17,7 +17,6 @@ use Rattle.readings_frame.specs.declared.State.{State}
 use Rattle.readings_turn.specs.Turns.{Turned}
 use Rattle.readings_turn.specs.Written.{placeOf, goingAt, TurnedAt, begins, noneKept, Looped, withState, Reported, notDone, statusOf}
 use Rattle.readings_turn.specs.declared.Standing.{Standing}
-use Rattle.readings_turn.specs.declared.Stopped.{Stopped}
 
 module _ (l : Layouts) (s₀ : Standing) (input₀ kept₀ : List ℕ) (t₀ : Lent) (out₀ counts₀ : List ℕ) where
   -- so many turns were made

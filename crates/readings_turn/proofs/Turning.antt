@@ -18,7 +18,7 @@ use Rattle.feed.specs.declared.Feed.{Feed}
 use Rattle.feed.specs.declared.Pull.{Pull}
 use Rattle.feed.specs.declared.Pulled.{Pulled}
 use Rattle.window.specs.declared.Refilled.{Refilled}
-use Rattle.readings_lines.specs.Output.{pending, failedIn, Adds}
+use Rattle.readings_lines.specs.Output.{pending, failedIn}
 use Rattle.readings_lines.specs.Lines.{Added, adding}
 use Rattle.readings_frame.specs.Readings.{Layouts, numbered}
 use Rattle.readings_frame.specs.declared.State.{State}

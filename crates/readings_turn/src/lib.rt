@@ -1,21 +1,18 @@
 // The loop of the readings: each turn takes one section of a recording, adds what it hands out to the text, and counts what is refused.
+mod section;
+
 ghost use mathlib.Core.Path.{_≡_};
 ghost use Rattle.session.specs.Lent.{lent};
 ghost use Rattle.readings_frame.specs.Readings.{layoutsOf};
 ghost use Rattle.readings_lines.specs.Output.{failedIn};
-ghost use Rattle.readings_turn.specs.Turns.{isBad, goesOn, Heeds, Clears, Turned};
+ghost use Rattle.readings_turn.specs.Turns.{Turned};
 ghost use Rattle.readings_turn.specs.Written.{begins, Looped, Reported, statusOf};
 use feed::Feed;
-use feed::Pull;
-use receiver::Receiver;
 use readings_frame::State;
+use receiver::Receiver;
 use session::Session;
-use session::StepAnswer;
 use stretch::KEPT;
 use window::Refilled;
-
-// With so many octets at hand the recording goes on without a read.
-const SECTION: usize = 1026;
 
 // The most turns.
 const TURNS: u64 = 18446744073709551615;
@@ -211,7 +208,8 @@ fn turn(
     counts: &mut [u64],
     before: Standing,
 ) -> Standing
-    ensures { λ r. ⌜ Turned (layoutsOf (now (text .entry)) (now (apids .entry)) (now (sids .entry)) (now (starts .entry)) n (now (codes .entry))
+    ensures { λ r. ⌜ Turned (layoutsOf (now (text .entry)) (now (apids .entry)) (now (sids .entry)) (now (starts .entry)) n
+        (now (codes .entry))
         (now (froms .entry)) (now (tos .entry)))
         before (now (input .entry)) (now (kept .entry)) (lent (now (octets .entry)) (now (lengths .entry)) (now (firsts .entry)))
         (now (out .entry)) (now (counts .entry)) r (now (input .exit)) (now (kept .exit))
@@ -234,7 +232,7 @@ fn turn(
     let received = pulled.receiver;
     let read = pulled.read;
     let pull = pulled.pull;
-    let heard = heed(
+    let heard = section::heed(
         name,
         pull,
         octets,
@@ -253,9 +251,9 @@ fn turn(
         state,
     );
     let hand = window::hand(input, next.at, next.end);
-    let after = before_a_read(name, out, hand.len(), heard);
-    let going = may_go_on(pull, after);
-    let bad = is_bad(pull);
+    let after = section::before_a_read(name, out, hand.len(), heard);
+    let going = section::may_go_on(pull, after);
+    let bad = section::is_bad(pull);
     Standing {
         feed: next,
         receiver: received,
@@ -263,91 +261,5 @@ fn turn(
         read,
         bad,
         going,
-    }
-}
-
-// Writes the text if fewer octets are at hand than a section may have.
-fn before_a_read(name: &[u8], out: &[u8], hand: usize, state: State) -> State
-    ensures { λ r. ⌜ Clears hand (now (out .entry)) state r ⌝ }
-{
-    if SECTION <= hand {
-        return state;
-    }
-    state.written(name, out)
-}
-
-// Whether the recording is bad.
-fn is_bad(pull: Pull) -> bool
-    ensures { λ r. ⌜ r ≡ isBad pull ⌝ }
-{
-    match pull {
-        Pull::Bad | Pull::Cut => true,
-        _ => false,
-    }
-}
-
-// Whether more may come, and no write failed.
-fn may_go_on(pull: Pull, state: State) -> bool
-    ensures { λ r. ⌜ r ≡ goesOn pull (failedIn (state .output)) ⌝ }
-{
-    if state.failed() {
-        return false;
-    }
-    match pull {
-        Pull::More | Pull::Opened | Pull::Answered(_) => true,
-        _ => false,
-    }
-}
-
-// Takes what was told of the recording's next section: the packets of an accepted frame, or a refusal, which is counted.
-fn heed(
-    name: &[u8],
-    pull: Pull,
-    octets: &[u8],
-    lengths: &[u16],
-    firsts: &[u32],
-    text: &[u8],
-    apids: &[u16],
-    sids: &[u8],
-    starts: &[usize],
-    n: usize,
-    codes: &[u16],
-    froms: &[usize],
-    tos: &[usize],
-    out: &mut [u8],
-    counts: &mut [u64],
-    state: State,
-) -> State
-    ensures { λ r. ⌜ Heeds (layoutsOf (now (text .entry)) (now (apids .entry)) (now (sids .entry)) (now (starts .entry)) n (now (codes .entry))
-        (now (froms .entry)) (now (tos .entry)))
-        pull (lent (now (octets .entry)) (now (lengths .entry)) (now (firsts .entry))) (now (out .entry)) (now (counts .entry)) state
-        (now (out .exit)) (now (counts .exit)) r ⌝ }
-{
-    let Pull::Answered(answer) = pull else {
-        return state;
-    };
-    match answer {
-        StepAnswer::Refused(r) => {
-            telling::count(counts, r.number);
-            state
-        }
-        StepAnswer::Accepted(a) => readings_frame::frame(
-            name,
-            a,
-            octets,
-            lengths,
-            firsts,
-            text,
-            apids,
-            sids,
-            starts,
-            n,
-            codes,
-            froms,
-            tos,
-            out,
-            counts,
-            state,
-        ),
     }
 }

@@ -6,25 +6,35 @@ use Rattle.readings_turn.proofs.report.Statement.{statement}
 use Rattle.readings_turn.proofs.report.Tie as tie
 
 same-length : tie.Need-same-length
-same-length c = c .before .before .before .before .before .before .before .before .before .before .turns .kept .1 .1 .0
+same-length c =
+    let c10 = c .before .before .before .before .before .before .before .before .before .before in
+    c10 .turns .kept .1 .1 .0
 
 same-length-2 : tie.Need-same-length-2
-same-length-2 c = c .before .before .before .before .before .before .before .before .before .before .turns .kept .1 .1 .1 .1 .1 .1 .1 .1
+same-length-2 c =
+    let c10 = c .before .before .before .before .before .before .before .before .before .before in
+    let c14 = c10 .before .before .before .before in
+    c10 .turns .kept .1 .1 .1 .1 .1 .1 .1 .1
     .1 .1 .1 .0 ∙ c .before .before .before .before .before .before .before .before .before .before .before .before .before .before
     .before .before .before .before .begun .kept .0
 
 same-length-3 : tie.Need-same-length-3
-same-length-3 c = c .before .before .before .before .before .before .before .before .before .before .turns .kept .1 .1 .1 .1 .1 .1 .1 .1
+same-length-3 c =
+    let c10 = c .before .before .before .before .before .before .before .before .before .before in
+    c10 .turns .kept .1 .1 .1 .1 .1 .1 .1 .1
     .1 .1 .1 .1 .0
 
 returns : tie.Need-returns
 returns c =
-    reported (c .before .before .before .before .before .before .before .before .before .before .before .before .before .before .before
+    let c10 = c .before .before .before .before .before .before .before .before .before .before in
+    let c14 = c10 .before .before .before .before in
+    let c15 = c14 .before in
+    reported (c14 .before
     .before .before .before .begun .ensures)
-    (c .before .before .before .before .before .before .before .before .before .before .before .before .before .before .before
+    (c14 .before
     .before .before .before .begun .kept .0)
-    (c .before .before .before .before .before .before .before .before .before .before .before .before .before .before .written
-    .ensures) (c .before .before .before .before .before .before .before .before .before .before .turns .ensures)
+    (c14 .written
+    .ensures) (c10 .turns .ensures)
     (c .written2 .ensures)
 
 pub report-spec : {M : Type 1} → statement M

@@ -42,11 +42,13 @@ same-length-3 c = c .before .before .loop .inv .2
 returns : tie.Need-returns Inv-loop μ-loop
 unfolding roomy
 returns c =
+    let c3 = c .before .before .before in
+    let c15 = c3 .before .before .before .before .before .before .before .before .before .before .before .before in
     let a = c .before .before .before .before .before .before .before .before .before .before .before .before .before .before .before
     .args in
     looped-all (layoutsOf (now (a .text)) (now (a .apids)) (now (a .sids)) (now (a .starts)) (a .n) (now (a .codes)) (now (a .froms))
     (now (a .tos))) (a .fresh) (a .first)
-    (c .before .before .before .begins .ensures) (c .before .before .loop .inv .7) (c .if1 .taken)
+    (c3 .begins .ensures) (c .before .before .loop .inv .7) (c .if1 .taken)
 
 slice-aggregate-turn : tie.Need-slice-aggregate-turn Inv-loop μ-loop
 slice-aggregate-turn c = sym (c .before .before .before .before .before .loop .inv .3)
@@ -58,28 +60,37 @@ slice-aggregate-turn-3 : tie.Need-slice-aggregate-turn-3 Inv-loop μ-loop
 slice-aggregate-turn-3 c = sym (c .before .before .before .before .before .before .before .loop .inv .5)
 
 add-made : tie.Need-add-made Inv-loop μ-loop
-add-made c = record {
-  fits = omega (
-    arith,
-    c .before .before .before .before .before .before .before .before .before .before .before .before .before .before .before
-        .before .before .before .before .loop .inv .6,
-    c .before .before .before .before .before .before .before .before .before .before
-        .before .before .before .before .before .before .before .if1 .left,
-  );
-}
+add-made c =
+    let c10 = c .before .before .before .before .before .before .before .before .before .before in
+    let c15 = c10 .before .before .before .before .before in
+    record {
+      fits = omega (
+        arith,
+        c .before .before .before .before .before .before .before .before .before .before .before .before .before .before .before
+            .before .before .before .before .loop .inv .6,
+        c .before .before .before .before .before .before .before .before .before .before
+            .before .before .before .before .before .before .before .if1 .left,
+      );
+    }
 
 loop-less : tie.Need-loop-less Inv-loop μ-loop
-loop-less c = omega (
-  arith,
-  c .before .before .before .before .before .before .before .before .before .before .before .before .before
-      .before .before .before .before .before .before .loop .inv .6,
-  c .before .before .before .before .before .before .before .before
-      .before .before .before .before .before .before .before .before .before .if1 .left,
-)
+loop-less c =
+    let c8 = c .before .before .before .before .before .before .before .before in
+    let c13 = c8 .before .before .before .before .before in
+    omega (
+      arith,
+      c .before .before .before .before .before .before .before .before .before .before .before .before .before
+          .before .before .before .before .before .before .loop .inv .6,
+      c .before .before .before .before .before .before .before .before
+          .before .before .before .before .before .before .before .before .before .if1 .left,
+    )
 
 loop-again : tie.Need-loop-again Inv-loop μ-loop
 loop-again c =
-    let t = c .before .before .before .before .before .before .before .before .before .turn in
+    let c9 = c .before .before .before .before .before .before .before .before .before in
+    let c13 = c9 .before .before .before .before in
+    let c15 = c13 .before .before in
+    let t = c9 .turn in
     let l = c .before .before .before .before .before .before .before .before .before .before .before .before .before .before .before
     .before .before .before .before .loop in (
       t .kept .1 .1 .0 ∙ l .inv .0,
@@ -111,7 +122,8 @@ same-length-6 c = c .before .loop .inv .2
 returns-2 : tie.Need-returns-2 Inv-loop μ-loop
 unfolding roomy
 returns-2 c =
-    let a = c .before .before .before .before .before .before .before .before .before .before .before .before .before .before .args in
+    let c14 = c .before .before .before .before .before .before .before .before .before .before .before .before .before .before in
+    let a = c14 .args in
     looped (layoutsOf (now (a .text)) (now (a .apids)) (now (a .sids)) (now (a .starts)) (a .n) (now (a .codes)) (now (a .froms))
     (now (a .tos))) (a .fresh) (a .first)
     (c .before .before .begins .ensures) (c .before .loop .inv .7) (c .loop-test .left)

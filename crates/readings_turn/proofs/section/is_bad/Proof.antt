@@ -1,8 +1,7 @@
--- `is_bad` meets its contract.
+-- `section::is_bad` meets its contract.
 use Rattle.readings_turn.proofs.Heeding.{bad-is, bad-not}
-use borrow.Author.Needs.{needs}
-use Rattle.readings_turn.proofs.is_bad.Statement.{statement}
-use Rattle.readings_turn.proofs.is_bad.Tie as tie
+use Rattle.readings_turn.proofs.section.is_bad.Statement.{statement}
+use Rattle.readings_turn.proofs.section.is_bad.Tie as tie
 
 returns : tie.Need-returns
 returns c = bad-is (c .before .args .pull) (c .match .keys1)

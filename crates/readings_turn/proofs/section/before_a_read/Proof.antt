@@ -1,8 +1,8 @@
--- `before_a_read` meets its contract.
+-- `section::before_a_read` meets its contract.
 use Rattle.readings_turn.proofs.Heeding.{enough-at-hand, text-written}
 use borrow.Author.Needs.{needs}
-use Rattle.readings_turn.proofs.before_a_read.Statement.{statement}
-use Rattle.readings_turn.proofs.before_a_read.Tie as tie
+use Rattle.readings_turn.proofs.section.before_a_read.Statement.{statement}
+use Rattle.readings_turn.proofs.section.before_a_read.Tie as tie
 
 returns : tie.Need-returns
 returns c = enough-at-hand (c .if1 .taken)
