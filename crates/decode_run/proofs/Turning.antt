@@ -8,7 +8,6 @@ use borrow.Author.Tests.{eqb-true, not-false, le-ltb}
 use native.Mathlib.Omega.{arith}
 use lib.ListN.{length, take, drop, length-drop}
 use lib.Seq.{take-at}
-use Rattle.octets.specs.Pick.{pick}
 use Rattle.octets.proofs.Choices.{passed}
 use Rattle.octets.proofs.Tests.{or-left}
 use Rattle.decimal.specs.Laid.{Puts}
@@ -17,7 +16,7 @@ use Rattle.receiver.specs.declared.Receiver.{Receiver}
 use Rattle.window.specs.Window.{hand, Refills, unread}
 use Rattle.window.specs.declared.Written.{Written}
 use Rattle.window.specs.declared.Refilled.{Refilled}
-use Rattle.window.proofs.Hands.{hand-behind, take-short, take-own}
+use Rattle.window.proofs.Hands.{hand-behind, take-short}
 use Rattle.listing.specs.Next.{nextOf, Nexts, Stops}
 use Rattle.listing.specs.Contracts.{room}
 use Rattle.listing.proofs.Calls.{part-of}

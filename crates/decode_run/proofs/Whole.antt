@@ -2,7 +2,7 @@
 use Prim.Native.Nat.{ℕ, _+_, _≤_}
 use mathlib.Core.Path.{_≡_, refl, sym, ap, _∙_, subst}
 use mathlib.Core.List.{List, [], _++_, append-nil}
-use mathlib.Core.Bool.{Bool, true, false, not, _||_, true≢false, false≢true}
+use mathlib.Core.Bool.{Bool, true, false, not, _||_, true≢false}
 use lib.IntN.{ℤ}
 use lib.ListN.{length, take}
 use borrow.Author.Tests.{not-false}
@@ -20,7 +20,7 @@ use Rattle.window.proofs.Looping.{at-first, one-more}
 use Rattle.listing.specs.Contracts.{toCome, atEnd}
 use Rattle.listing.specs.Whole.{Run, starts}
 use Rattle.listing.proofs.Whole.{pieces-are-listed}
-use Rattle.decode_run.specs.Turns.{handOf, failedIn, Turned, Ends, Place, goingAt, TurnedAt, startOf, place, lastOf, Looped}
+use Rattle.decode_run.specs.Turns.{handOf, failedIn, Turned, Ends, Place, goingAt, TurnedAt, startOf, place, Looped}
 use Rattle.decode_run.specs.Turns.{statusOf, Ran, allWritten, Whole, LoopsList}
 use Rattle.decode_run.specs.declared.State.{State}
 use Rattle.decode_run.specs.declared.Stopped.{Stopped}

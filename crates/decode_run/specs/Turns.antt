@@ -2,8 +2,9 @@
 use Prim.Native.Nat.{ℕ, _+_, _<_}
 use mathlib.Core.Path.{_≡_}
 use mathlib.Core.List.{List, [], _++_}
-use mathlib.Core.Bool.{Bool, true, false, not, _||_}
+use mathlib.Core.Bool.{Bool, true, false, not, _&&_, _||_}
 use lib.ListN.{length, take, drop}
+use lib.Dec.{eqb}
 use lib.IntN.{ℤ}
 use Rattle.octets.specs.Pick.{pick}
 use Rattle.source.specs.Scan.{Waits, Over}
@@ -60,7 +61,8 @@ pub record Turned (s : State) (input kept said : List ℕ) (r : State) (input′
   -- Whatever was read and written before, the turn goes on with that run.
   pub goes : (a₀ : Receiver) (kept₀ octets text : List ℕ) → Run a₀ kept₀ octets text (s .receiver) kept (handOf s input)
       → Run a₀ kept₀ (octets ++ piece) (text ++ said) (r .receiver) kept′ (handOf r input′)
-  -- How it ends if nothing failed: where octets are missing the system was asked for more. Whatever fails ends it, and nothing is read behind a write that failed.
+  -- How it ends if nothing failed: where octets are missing the system was asked for more. Whatever fails ends it, and nothing is read
+  -- behind a write that failed.
   pub ends : r .going ≡ false → failedIn r ≡ false → Ends (r .over) (r .receiver) kept′ (handOf r input′) × (r .read .came ≡ 0)
   pub asked : r .going ≡ false → failedIn r ≡ false → r .over ≡ false → r .read .tried ≡ true
   pub fails : failedIn r ≡ true → r .going ≡ false
@@ -95,6 +97,11 @@ startOf a o = record { receiver = a; at = 0; end = 0; used = 0; going = not (o .
 -- of the end.
 abbrev pub lastOf : State → List ℕ
 lastOf s = pick (failedIn s) [] (pick (s .over) [] (atEnd (s .receiver .source)))
+
+-- When it is said that no frame was accepted: an input that is not cut has ended, frames used arrival numbers, and its session heard none.
+abbrev pub noneAccepted : State → Bool
+noneAccepted s =
+    (not (cutAt (s .receiver .source)) && not (s .receiver .session .heard)) && not (eqb (s .receiver .session .arrival) 0)
 
 -- The contract of the loop: turns one after another from the start on, until one says stop, and what is written then.
 pub record Looped (a : Receiver) (first : Written) (input kept : List ℕ) (r : Stopped) (input′ kept′ out′ : List ℕ) : Type 0 where

@@ -11,7 +11,7 @@ ghost use Rattle.listing_lines.specs.Text.{header};
 ghost use Rattle.window.specs.Window.{Refills};
 ghost use Rattle.receiver.specs.Receive.{fresh};
 ghost use Rattle.listing.specs.Contracts.{room, atEnd};
-ghost use Rattle.decode_run.specs.Turns.{Left, Turned, failedIn, lastOf, statusOf, Looped, Ran};
+ghost use Rattle.decode_run.specs.Turns.{Left, Turned, failedIn, lastOf, noneAccepted, statusOf, Looped, Ran};
 use listing::Stop;
 use receiver::Receiver;
 use source::Source;
@@ -112,7 +112,7 @@ fn failed(state: State) -> bool
 }
 
 // The whole run of a receiver, with an input and an output buffer, behind a first write. It ends with the input, a bad recording, or a read
-// or write that failed; after 2^64 - 1 turns it would end too.
+// or write that failed; after 2^64 - 1 turns it would end too. A stream whose first octets look like another kind is told so, and listed.
 fn turns(
     name: &[u8],
     source: i32,
@@ -152,6 +152,7 @@ fn turns(
         let receiver = state.receiver;
         before = receiver.source;
         from = state.at;
+        faults::tell_start(name, passed, before, window::hand(input, from, state.end));
         state = turn(name, source, input, kept, out, state);
         passed = std::num::wrapping_add_u64(passed, state.used as u64);
         made += 1;
@@ -160,8 +161,9 @@ fn turns(
     Stopped { state, made, last }
 }
 
-// Writes the last line, and says why the recording was bad, if it was: the last turn went on from a source at index from of the input, and
-// all turns used passed octets. Where a read or a write failed, which was told, nothing is known of the recording, and nothing is said.
+// Writes the last line, and says why the recording was bad, or that no frame was accepted: the last turn went on from a source at index
+// from
+// of the input, and all turns used passed octets. Where a read or a write failed, which was told, nothing more is said.
 fn ended(
     name: &[u8],
     state: State,
@@ -185,13 +187,30 @@ fn ended(
     let receiver = state.receiver;
     let source = receiver.source;
     let last = last_line(name, source, out);
-    faults::tell(
-        name,
-        passed,
-        source,
-        window::hand(input, state.at, state.end),
-    );
+    let window = window::hand(input, state.at, state.end);
+    faults::tell(name, passed, source, window);
+    doubt(name, state);
     last
+}
+
+// Says that no frame was accepted, where that is so: t may be wrong.
+fn doubt(name: &[u8], state: State) {
+    if none_accepted(state) {
+        let receiver = state.receiver;
+        let source = receiver.source;
+        let session = receiver.session;
+        faults::tell_none(name, session.arrival, source, session.t);
+    }
+}
+
+// Whether frames arrived and none was accepted, of an input that is not cut.
+fn none_accepted(state: State) -> bool
+    ensures { λ r. ⌜ r ≡ noneAccepted state ⌝ }
+{
+    let receiver = state.receiver;
+    let source = receiver.source;
+    let session = receiver.session;
+    !source.cut() & !session.heard & (session.arrival != 0)
 }
 
 // One turn: what the octets at hand tell is written, and if octets are missing more are read.

@@ -1,2 +1,3 @@
 mod Whys
 mod Stopping
+mod Looks

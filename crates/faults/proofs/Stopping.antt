@@ -1,14 +1,14 @@
 -- Where a reader stops that goes on over the octets at hand.
 use Prim.Native.Nat.{ℕ, zero, suc, _+_, _-_, _≤_, _<_}
-use mathlib.Core.Path.{_≡_, refl, sym, ap, transport, _∙_}
+use mathlib.Core.Path.{_≡_, refl, sym, ap, _∙_}
 use mathlib.Core.Bool.{Bool, true, false, true≢false}
-use mathlib.Core.List.{List, []}
+use mathlib.Core.List.{List}
 use native.Mathlib.Omega.{arith}
 use lib.ListN.{length, take, drop, length-drop}
 use lib.Seq.{drop-drop}
 use borrow.Rule.Slice.PartAt.{part-to-end}
 use Rattle.octets.specs.Pick.{pick}
-use Rattle.recording.specs.Reader.{scanned, Goes, Told, Finds}
+use Rattle.recording.specs.Reader.{scanned, Told}
 use Rattle.recording.specs.declared.Reader.{Reader}
 use Rattle.recording.specs.declared.Scanned.{Scanned}
 use Rattle.recording.specs.declared.Taken.{Taken}
@@ -74,7 +74,8 @@ module _ (w : List ℕ) (at : ℕ) (a : Reader) (s : Scanned) (e : s ≡ scanned
   pub stops : {b : Reader} → Before b a (drop at w) → goesOn (s .taken) ≡ false → a ≡ b
   stops h g = sym (h .same ∙ stops-here (h .most) a (drop at w) (rw here at g))
 
-  pub turns : {b : Reader} → Before b a (drop at w) → at < length w → goesOn (s .taken) ≡ true → Before b (s .reader) (drop (at + s .used) w)
+  pub turns : {b : Reader} → Before b a (drop at w) → at < length w → goesOn (s .taken) ≡ true → Before b (s .reader)
+      (drop (at + s .used) w)
   turns {b} h l g =
       let some : 0 < length (drop at w) = omega (arith, l, length-drop at w) in
       let n : Before b (scanned a (drop at w) .reader) (drop (scanned a (drop at w) .used) (drop at w)) =

@@ -1,4 +1,5 @@
-// Why a recording is bad, for people: said on standard error, behind the program's name, with the octet of the input.
+// Why a recording is bad, for people: said on standard error, behind the program's name, with the octet of the input; and what an input
+// looks like that is of another kind than was said.
 ghost use mathlib.Core.Path.{_≡_};
 ghost use lib.ListN.{length};
 ghost use Rattle.faults.specs.Why.{settingsWhy, frameWhy, whyAt, before, goesOn, stopsAt};
@@ -6,6 +7,9 @@ use libc::STDERR_FILENO;
 use recording::Reader;
 use recording::Taken;
 use source::Source;
+use start::Look;
+
+mod start;
 
 // What is wrong with a recording.
 enum Why {
@@ -118,32 +122,55 @@ fn before(why: Why) -> u64
     }
 }
 
-// Says that a recording is bad at an octet.
-fn say(name: &[u8], octet: u64, why: &[u8]) {
+// Says that a recording is bad at an octet, and what it looks like.
+fn say(name: &[u8], octet: u64, why: &[u8], look: Look) {
     io::write_all(STDERR_FILENO, name);
     io::write_all(STDERR_FILENO, b": bad recording at octet ");
     io::print_decimal(STDERR_FILENO, octet);
     io::write_all(STDERR_FILENO, b": ");
     io::write_all(STDERR_FILENO, why);
+    match look {
+        Look::Nothing => {}
+        Look::Kiss => {
+            io::write_all(
+                STDERR_FILENO,
+                b"; it looks like a KISS stream, which decode --kiss T reads",
+            );
+        }
+        Look::Bit => {
+            io::write_all(
+                STDERR_FILENO,
+                b"; it looks like one bit an octet, and decode --bits T wants eight",
+            );
+        }
+        Look::Recording => {}
+    }
     io::write_all(STDERR_FILENO, b"\n");
 }
 
-// The words for what is wrong at an octet.
-fn words(name: &[u8], octet: u64, why: Why) {
+// The words for what is wrong at an octet with a recording whose section there, or whole input, has these octets.
+fn words(name: &[u8], octet: u64, why: Why, rest: &[u8]) {
+    let nothing = Look::Nothing;
     match why {
         Why::Nothing => {}
-        Why::SettingsCut => say(name, octet, b"it ends inside the settings"),
-        Why::CountNotOne => say(name, octet, b"the first count is not 1"),
-        Why::TimeLong => say(name, octet, b"t is above 8"),
-        Why::CountCut => say(name, octet, b"it ends inside the count of frames"),
-        Why::FramesMissing => say(name, octet, b"it ends before the last frame"),
-        Why::FrameLong => say(name, octet, b"a frame of more than 1,024 octets"),
-        Why::FrameCut => say(name, octet, b"it ends inside a frame"),
-        Why::Behind => say(name, octet, b"octets behind the last frame"),
+        Why::SettingsCut => say(
+            name,
+            octet,
+            b"it ends inside the settings",
+            start::seen(rest),
+        ),
+        Why::CountNotOne => say(name, octet, b"the first count is not 1", start::seen(rest)),
+        Why::TimeLong => say(name, octet, b"t is above 8", nothing),
+        Why::CountCut => say(name, octet, b"it ends inside the count of frames", nothing),
+        Why::FramesMissing => say(name, octet, b"it ends before the last frame", nothing),
+        Why::FrameLong => say(name, octet, b"a frame of more than 1,024 octets", nothing),
+        Why::FrameCut => say(name, octet, b"it ends inside a frame", nothing),
+        Why::Behind => say(name, octet, b"octets behind the last frame", nothing),
     }
 }
 
-// Says why a recording is bad that its source found bad, or that ended, with these octets at hand from an octet on; nothing of a good one.
+// Says why a recording is bad: its source found it bad, or it ended, with the octets `rest` left, the first of which is number `octet` of
+// the input. It prints nothing if the recording is good.
 pub fn tell(name: &[u8], octet: u64, source: Source, rest: &[u8]) {
     match source {
         Source::Recording(reader) => tell_at(name, octet, reader, rest),
@@ -168,5 +195,68 @@ pub fn tell_over(name: &[u8], octet: u64, source: Source, window: &[u8], used: u
 // The same by the recording's reader.
 fn tell_at(name: &[u8], octet: u64, reader: Reader, rest: &[u8]) {
     let why = cause(reader, rest);
-    words(name, std::num::wrapping_add_u64(octet, before(why)), why);
+    words(
+        name,
+        std::num::wrapping_add_u64(octet, before(why)),
+        why,
+        rest,
+    );
+}
+
+// Says what the first octets of a stream look like, if of another kind than the stream; nothing of a recording, and nothing once octets
+// were used, which are so many.
+pub fn tell_start(name: &[u8], passed: u64, source: Source, first: &[u8]) {
+    if passed != 0 {
+        return;
+    }
+    match source {
+        Source::Recording(_) => {}
+        Source::Kiss(_) => tell_look(name, start::seen(first)),
+        Source::Bits(_) => tell_look(name, start::seen(first)),
+    }
+}
+
+// Says what a stream looks like that is none.
+fn tell_look(name: &[u8], look: Look) {
+    match look {
+        Look::Nothing => {}
+        Look::Kiss => {}
+        Look::Bit => say_look(
+            name,
+            b": this looks like one bit an octet, and --bits T wants eight\n",
+        ),
+        Look::Recording => say_look(
+            name,
+            b": this looks like a recording, which is read without --kiss and --bits\n",
+        ),
+    }
+}
+
+// Says a line behind the program's name.
+fn say_look(name: &[u8], line: &[u8]) {
+    io::write_all(STDERR_FILENO, name);
+    io::write_all(STDERR_FILENO, line);
+}
+
+// Says that of so many frames none was accepted, and that t may be wrong, which came with a source.
+pub fn tell_none(name: &[u8], frames: u32, source: Source, t: u8) {
+    io::write_all(STDERR_FILENO, name);
+    io::write_all(STDERR_FILENO, b": no frame was accepted, 0 of ");
+    io::print_decimal(STDERR_FILENO, frames as u64);
+    io::write_all(
+        STDERR_FILENO,
+        b"; if the listing says 14, t may be wrong: it is ",
+    );
+    io::print_decimal(STDERR_FILENO, t as u64);
+    match source {
+        Source::Recording(_) => {
+            io::write_all(STDERR_FILENO, b" by the recording's header\n");
+        }
+        Source::Kiss(_) => {
+            io::write_all(STDERR_FILENO, b" by --kiss\n");
+        }
+        Source::Bits(_) => {
+            io::write_all(STDERR_FILENO, b" by --bits\n");
+        }
+    }
 }

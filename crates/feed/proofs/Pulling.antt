@@ -1,12 +1,11 @@
 -- What comes of a call, by what the receiver tells.
-use Prim.Native.Nat.{ℕ, _+_, _-_, _%_, _^_, _≤_, _<_}
+use Prim.Native.Nat.{ℕ, _+_, _-_, _%_, _^_, _≤_}
 use mathlib.Core.Path.{_≡_, refl, sym, ap, _∙_, subst}
 use mathlib.Core.List.{List, [], _++_, append-nil}
 use mathlib.Core.Bool.{Bool, true, false}
 use native.Mathlib.Omega.{arith}
 use borrow.Author.Tests.{eq-eqb, ne-eqb}
-use lib.Dec.{eqb}
-use lib.ListN.{length, take, drop, length-drop}
+use lib.ListN.{length, drop, length-drop}
 use Rattle.octets.specs.Pick.{pick}
 use Rattle.session.specs.Lent.{Lent}
 use Rattle.source.specs.Found.{cutAt}
@@ -20,11 +19,10 @@ use Rattle.receiver.proofs.Events.{used-inside}
 use Rattle.window.specs.Window.{hand, unread, Refills}
 use Rattle.window.specs.declared.Refilled.{Refilled}
 use Rattle.window.proofs.Hands.{hand-behind, take-short}
-use Rattle.feed.specs.Pull.{handOf, atEnd, pulled, Missed, Tells, Pulls}
+use Rattle.feed.specs.Pull.{handOf, atEnd, pulled, Missed, Tells, ReadsOn, Pulls}
 use Rattle.feed.specs.declared.Feed.{Feed}
 use Rattle.feed.specs.declared.Pull.{Pull}
 use Rattle.feed.specs.declared.Pull.the-variants as pull
-use Rattle.feed.specs.declared.Pulled.{Pulled}
 use Rattle.feed.specs.declared.Told.{Told}
 
 -- By how a read ended.
@@ -49,30 +47,42 @@ module _ (s : Source) (failed : Bool) (came : ℕ) where
 module _ (input : List ℕ) (from end passed : ℕ) (s : Source) {e : Event} where
   -- nothing was read
   pub told : (d : Event) {read : Refilled} → Missed d read → read ≡ unread → e ≡ d
-      → Tells input from end passed s e (record { feed = record { at = from; end = end; passed = passed }; pull = pulled d s false 0; read = read }) input
+      → Tells input from end passed s e (record
+      { feed = record { at = from; end = end; passed = passed }; pull = pulled d s false 0; read = read }) input
   told d {read} m u h = record {
     piece = [];
     window = sym (append-nil _);
     many = ap (λ (x : Refilled). x .came) (sym u);
     only = subst (λ (y : Event). Missed y read) (sym h) m;
-    tells = ap (λ (x : Refilled). pulled d s (x .failed) (x .came)) (sym u) ∙ ap (λ (y : Event). pulled y s (read .failed) (read .came)) (sym h);
+    tells = ap (λ (x : Refilled). pulled d s (x .failed) (x .came)) (sym u) ∙ ap (λ (y : Event). pulled y s (read .failed) (read .came))
+        (sym h);
     passed = refl;
   }
 
   -- a read followed
-  pub told-missing : {n have : ℕ} {input′ : List ℕ} {r : Refilled} {p : Pull} → e ≡ event.Missing n → Refills input from end input′ r → have ≡ r .have
-      → p ≡ atEnd s (r .failed) (r .came)
-      → Tells input from end passed s e (record { feed = record { at = 0; end = have; passed = passed }; pull = p; read = r }) input′
-  told-missing {input′ = input′} {r = r} h g k d = record {
-    piece = g .piece;
-    window = ap (λ (n : ℕ). hand input′ 0 n) k ∙ g .window;
-    many = g .many;
-    only = subst (λ (y : Event). Missed y r) (sym h) (g .tried);
-    tells = d ∙ ap (λ (y : Event). pulled y s (r .failed) (r .came)) (sym h);
-    passed = refl;
+  pub told-missing : {n : ℕ} {input′ : List ℕ} {r : Told} → e ≡ event.Missing n → ReadsOn input from end passed s r input′
+      → Tells input from end passed s e r input′
+  told-missing {input′ = input′} {r = r} h g = record {
+    piece = g .refills .piece;
+    window = ap (λ (f : Feed). handOf f input′) (g .feed) ∙ g .refills .window;
+    many = g .refills .many;
+    only = subst (λ (y : Event). Missed y (r .read)) (sym h) (g .refills .tried);
+    tells = g .tells ∙ ap (λ (y : Event). pulled y s (r .read .failed) (r .read .came)) (sym h);
+    passed = ap (λ (f : Feed). f .passed) (g .feed);
   }
 
-module _ (f : Feed) (input : List ℕ) (a : Receiver) (kept : List ℕ) {w : List ℕ} (same : w ≡ handOf f input) {l : Lent} {q : Received} {kept′ : List ℕ} {l′ : Lent}
+-- A read, by what it left and how it ended.
+pub reads-on : {input : List ℕ} {from end passed : ℕ} {s : Source} {have : ℕ} {input′ : List ℕ} {r : Refilled} {p : Pull}
+    → Refills input from end input′ r → have ≡ r .have → p ≡ atEnd s (r .failed) (r .came)
+    → ReadsOn input from end passed s (record { feed = record { at = 0; end = have; passed = passed }; pull = p; read = r }) input′
+reads-on {passed = passed} g k d = record {
+  refills = g;
+  feed = ap (λ (n : ℕ). record { at = 0; end = n; passed = passed }) k;
+  tells = d;
+}
+
+module _ (f : Feed) (input : List ℕ) (a : Receiver) (kept : List ℕ) {w : List ℕ}
+    (same : w ≡ handOf f input) {l : Lent} {q : Received} {kept′ : List ℕ} {l′ : Lent}
     (y : Receives a kept w l q kept′ l′) where
   x : Receives a kept (handOf f input) l q kept′ l′
   x = subst (λ (v : List ℕ). Receives a kept v l q kept′ l′) same y

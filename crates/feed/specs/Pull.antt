@@ -14,7 +14,7 @@ use Rattle.receiver.specs.declared.Receiver.{Receiver}
 use Rattle.receiver.specs.declared.Received.{Received}
 use Rattle.receiver.specs.declared.Event.{Event}
 use Rattle.receiver.specs.declared.Event.the-variants as event
-use Rattle.window.specs.Window.{hand, unread}
+use Rattle.window.specs.Window.{hand, unread, Refills}
 use Rattle.window.specs.declared.Refilled.{Refilled}
 use Rattle.feed.specs.declared.Feed.{Feed}
 use Rattle.feed.specs.declared.Pull.{Pull}
@@ -61,9 +61,16 @@ pub record Tells (input : List ℕ) (from end behind : ℕ) (s : Source) (e : Ev
   pub tells : r .pull ≡ pulled e s (r .read .failed) (r .read .came)
   pub passed : r .feed .passed ≡ behind
 
+-- A read where octets are missing, as it is told: the octets at hand from `from` up to end stay, and what came stands behind them.
+pub record ReadsOn (input : List ℕ) (from end behind : ℕ) (s : Source) (r : Told) (input′ : List ℕ) : Type 0 where
+  pub refills : Refills input from end input′ (r .read)
+  pub feed : r .feed ≡ record { at = 0; end = r .read .have; passed = behind }
+  pub tells : r .pull ≡ atEnd s (r .read .failed) (r .read .came)
+
 -- The contract of a call: what the receiver received of the octets at hand, the read that was made, if octets were missing, and the piece
 -- that it brought behind them. All is fixed but what the read brought, and whether it failed.
-pub record Pulls (f : Feed) (input : List ℕ) (a : Receiver) (kept : List ℕ) (l : Lent) (r : Pulled) (input′ kept′ : List ℕ) (l′ : Lent) : Type 0 where
+pub record Pulls (f : Feed) (input : List ℕ) (a : Receiver) (kept : List ℕ) (l : Lent) (r : Pulled) (input′ kept′ : List ℕ)
+    (l′ : Lent) : Type 0 where
   pub received : Received
   pub piece : List ℕ
   pub calls : Receives a kept (handOf f input) l received kept′ l′

@@ -1,7 +1,7 @@
 // Frames from a descriptor: a call goes on with one section of the octets at hand, and reads once if octets are missing.
 ghost use mathlib.Core.Path.{_≡_};
 ghost use Rattle.session.specs.Lent.{lent};
-ghost use Rattle.feed.specs.Pull.{fresh, Tells, Pulls};
+ghost use Rattle.feed.specs.Pull.{fresh, Tells, ReadsOn, Pulls};
 use receiver::Event;
 use receiver::Receiver;
 use session::StepAnswer;
@@ -114,29 +114,16 @@ fn tell(
 ) -> Told
     ensures { λ r. ⌜ Tells (now (input .entry)) from end passed before event r (now (input .exit)) ⌝ }
 {
-    let mut feed = Feed {
+    let feed = Feed {
         at: from,
         end,
         passed,
     };
-    let mut read = Refilled::none();
+    let read = Refilled::none();
     let pull;
     match event {
         Event::Missing(_) => {
-            read = window::refill(name, descriptor, input, from, end);
-            let have = read.have();
-            feed.at = 0;
-            feed.end = have;
-            if read.failed() {
-                pull = Pull::Failed;
-            } else if read.came() != 0 {
-                pull = Pull::More;
-            } else if before.cut() {
-                faults::tell(name, passed, before, window::hand(input, 0, have));
-                pull = Pull::Cut;
-            } else {
-                pull = Pull::End;
-            }
+            return more(name, descriptor, input, from, end, passed, before);
         }
         Event::Bad => {
             faults::tell(name, passed, before, window::hand(input, from, end));
@@ -155,5 +142,40 @@ fn tell(
             pull = Pull::Answered(answer);
         }
     }
+    Told { feed, pull, read }
+}
+
+// Reads once behind the octets at hand, and tells whether more came, or how the input ended. An input whose first octets look like another
+// kind of input is told so.
+fn more(
+    name: &[u8],
+    descriptor: i32,
+    input: &mut [u8],
+    from: usize,
+    end: usize,
+    passed: u64,
+    before: Source,
+) -> Told
+    ensures { λ r. ⌜ ReadsOn (now (input .entry)) from end passed before r (now (input .exit)) ⌝ }
+{
+    let read = window::refill(name, descriptor, input, from, end);
+    let have = read.have();
+    let pull;
+    if read.failed() {
+        pull = Pull::Failed;
+    } else if read.came() != 0 {
+        faults::tell_start(name, passed, before, window::hand(input, 0, have));
+        pull = Pull::More;
+    } else if before.cut() {
+        faults::tell(name, passed, before, window::hand(input, 0, have));
+        pull = Pull::Cut;
+    } else {
+        pull = Pull::End;
+    }
+    let feed = Feed {
+        at: 0,
+        end: have,
+        passed,
+    };
     Told { feed, pull, read }
 }

@@ -1,6 +1,7 @@
 pub mod Told
 pub mod Lines
 pub mod Names
+pub mod Reasons
 pub mod Finding
 pub mod Kept
 pub mod Reading

@@ -1,4 +1,5 @@
 pub mod Line
+pub mod Reason
 pub mod Layouts
 pub mod Found
 pub mod Steps

@@ -34,11 +34,15 @@ module _ (text : List ℕ) {n : ℕ} (some : n ≡ 0 → ⊥) (h : n < length te
 
   stays : at text (n - 1) ≡ 10 → lineEnded (take n text) ≡ take n text
   unfolding lineEnded
-  stays e = sym (passed _ _ _ _ (ap (λ (b : Bool). not b && not (eqb (at (take n text) (length (take n text) - 1)) 10)) not-empty ∙ ap not (eq-eqb _ 10 (last-is ∙ e))) refl)
+  stays e =
+      sym (passed _ _ _ _ (ap (λ (b : Bool). not b && not (eqb (at (take n text) (length (take n text) - 1)) 10)) not-empty ∙ ap not
+      (eq-eqb _ 10 (last-is ∙ e))) refl)
 
   grows : (at text (n - 1) ≡ 10 → ⊥) → lineEnded (take n text) ≡ take n text ++ (10 ∷ [])
   unfolding lineEnded
-  grows e = sym (picked _ _ _ (ap (λ (b : Bool). not b && not (eqb (at (take n text) (length (take n text) - 1)) 10)) not-empty ∙ ap not (ne-eqb _ 10 (λ z. e (sym last-is ∙ z)))))
+  grows e =
+      sym (picked _ _ _ (ap (λ (b : Bool). not b && not (eqb (at (take n text) (length (take n text) - 1)) 10)) not-empty ∙ ap not
+      (ne-eqb _ 10 (λ z. e (sym last-is ∙ z)))))
 
   pub was-ended : at text (n - 1) ≡ 10 → Ends text n text n
   was-ended e = record { size = λ _. sym (ap length (stays e) ∙ long); ended = λ _. sym (stays e); full = λ k. absurd (omega arith) }

@@ -42,11 +42,10 @@ fn given(name: &[u8], path: &[u8], text: &[u8], descriptor: i32, fresh: Receiver
             window::AGAINST
         }
         LayoutsRead::Layouts(n, entries) => {
-            if n == 0 {
-                loading::about(name, path, b" has no layout\n");
+            end_last(&mut starts, n, entries);
+            if loading::unusable(name, path, text, &starts, n, &froms, &tos) {
                 return window::AGAINST;
             }
-            end_last(&mut starts, n, entries);
             recording(
                 name,
                 descriptor,

@@ -26,12 +26,12 @@ returns-2 c =
 
 returns-3 : tie.Need-returns-3
 returns-3 c =
-    let p4 = c .before .before .before .before in
-    let p7 = p4 .before .before .before in
-    let p8 = p7 .before in
+    let p5 = c .before .before .before .before .before in
+    let p8 = p5 .before .before .before in
     let p9 = p8 .before in
-    p4 .last-line .ensures
-    ∙ passed _ _ _ _ (sym (p9 .failed .ensures) ∙ p8 .if1 .left) (passed _ _ _ _ (p7 .if2 .left) refl)
+    let p10 = p9 .before in
+    p5 .last-line .ensures
+    ∙ passed _ _ _ _ (sym (p10 .failed .ensures) ∙ p9 .if1 .left) (passed _ _ _ _ (p8 .if2 .left) refl)
 
 pub ended-spec : {M : Type 1} → statement M
 ended-spec =
@@ -39,4 +39,4 @@ ended-spec =
     (tie.spec
     (λ c κs. search needs) (λ c κs. search needs) returns (λ c κs. search needs) (λ c κs. search needs)
     (λ c κs. search needs) returns-2 (λ c κs. search needs) (λ c κs. search needs) (λ c κs. search needs)
-    (λ c. search needs) returns-3)
+    (λ c κs. search needs) (λ c. search needs) returns-3)

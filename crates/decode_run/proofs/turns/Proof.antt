@@ -41,15 +41,15 @@ returns c =
 loop-again : tie.Need-loop-again Inv-loop μ-loop
 loop-again c =
     let p5 = c .before .before .before .before .before in
-    let p10 = p5 .before .before .before .before .before in
-    let p11 = p10 .before in
-    let p12 = p11 .before in
+    let p13 = p5 .before .before .before .before .before .before .before .before in
+    let p14 = p13 .before in
+    let p15 = p14 .before in
     let t = p5 .turn in
-    let l = p12 .loop in (
+    let l = p15 .loop in (
       t .kept .1 .1 .0 ∙ l .inv .0,
       t .kept .1 .1 .1 .1 .0 ∙ l .inv .1,
-      omega (arith, l .inv .2, p10 .if1 .left),
-      gone-on (l .inv .3) (p11 .loop-test .taken) (t .ensures),
+      omega (arith, l .inv .2, p13 .if1 .left),
+      gone-on (l .inv .3) (p14 .loop-test .taken) (t .ensures),
     )
 
 returns-2 : tie.Need-returns-2 Inv-loop μ-loop
@@ -74,6 +74,6 @@ turns-spec =
     tie.close
     (tie.spec
     Inv-loop μ-loop (λ c κs. search needs) (λ c κs. search needs) loop-holds (λ c κs. search needs)
-    (λ c. search needs) (λ c. search needs) returns (λ c κs. search needs) (λ c κs. search needs)
-    (λ c. search needs) (λ c. search needs) loop-again (λ c κs. search needs) (λ c. search needs)
+    (λ c. search needs) (λ c. search needs) returns (λ c κs. search needs) (λ c κs. search needs) (λ c κs. search needs)
+    (λ c κs. search needs) (λ c. search needs) (λ c. search needs) loop-again (λ c κs. search needs) (λ c. search needs)
     (λ c. search needs) returns-2)

@@ -29,8 +29,9 @@ returns c =
 
 add-at : tie.Need-add-at Inv-loop μ-loop
 add-at c =
-    let k = c .before .before .before .before .before .before in
-    let i = used-inside (now (k .before .before .args .window)) (k .loop .at) _ _ (c .before .before .before .scan .ensures) (k .loop .inv .0) in
+    let c3 = c .before .before .before in
+    let k = c3 .before .before .before in
+    let i = used-inside (now (k .before .before .args .window)) (k .loop .at) _ _ (c3 .scan .ensures) (k .loop .inv .0) in
     search (needs, i)
 
 loop-less : tie.Need-loop-less Inv-loop μ-loop
@@ -45,10 +46,12 @@ loop-less c =
 
 loop-again : tie.Need-loop-again Inv-loop μ-loop
 loop-again c =
-    let k = c .before .before .before .before .before .before in
-    let e = c .before .before .before .scan .ensures in (
+    let c3 = c .before .before .before in
+    let c5 = c3 .before .before in
+    let k = c5 .before in
+    let e = c3 .scan .ensures in (
       used-inside (now (k .before .before .args .window)) (k .loop .at) _ _ e (k .loop .inv .0),
-      turns (now (k .before .before .args .window)) (k .loop .at) _ _ e (k .loop .inv .1) (c .before .before .before .before .before .loop-test .taken)
+      turns (now (k .before .before .args .window)) (k .loop .at) _ _ e (k .loop .inv .1) (c5 .loop-test .taken)
           (sym (c .before .before .whole .ensures) ∙ not-false _ (c .before .if1 .left)),
     )
 

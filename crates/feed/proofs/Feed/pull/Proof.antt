@@ -8,8 +8,17 @@ use Rattle.feed.proofs.Feed.pull.Tie as tie
 
 add-from : tie.Need-add-from
 add-from c =
-    let a = c .before .before .before .before .before .before .before .before .before .before .before .before .before .before .before .before .before .before .before .args in
-    omega (arith, used-left (a .self) (now (a .input)) (a .receiver) (now (a .kept)) (c .before .before .before .before .before .before .before .before .before .before .before .before .hand .ensures) (c .before .before .before .before .before .before .before .next .ensures), c .before .before .before .before .before .before .before .before .before .before .before .before .before .before .before .before .before .before .before .good .0, c .before .before .before .before .before .before .before .before .before .before .before .before .before .before .before .before .before .before .before .good .1 .1 .1 .0)
+    let c7 = c .before .before .before .before .before .before .before in
+    let c12 = c7 .before .before .before .before .before in
+    let c19 = c12 .before .before .before .before .before .before .before in
+    let a = c19 .args in
+    omega (
+      arith,
+      used-left (a .self) (now (a .input)) (a .receiver) (now (a .kept)) (c12 .hand .ensures)
+          (c7 .next .ensures),
+      c19 .good .0,
+      c19 .good .1 .1 .1 .0,
+    )
 
 returns : tie.Need-returns
 returns c =

@@ -12,10 +12,16 @@ returns-2 : tie.Need-returns-2
 returns-2 c = no-room (c .if2 .taken)
 
 returns-3 : tie.Need-returns-3
-returns-3 c = was-ended (now (c .before .before .before .before .args .text)) (c .before .before .before .if1 .left) (c .before .before .if2 .left) (c .if3 .taken)
+returns-3 c =
+    let c3 = c .before .before .before in
+    let c4 = c3 .before in
+    was-ended (now (c4 .args .text)) (c3 .if1 .left) (c .before .before .if2 .left) (c .if3 .taken)
 
 returns-4 : tie.Need-returns-4
-returns-4 c = now-ended (now (c .before .before .before .before .args .text)) (c .before .before .before .if1 .left) (c .before .before .if2 .left) (c .if3 .left)
+returns-4 c =
+    let c3 = c .before .before .before in
+    let c4 = c3 .before in
+    now-ended (now (c4 .args .text)) (c3 .if1 .left) (c .before .before .if2 .left) (c .if3 .left)
 
 pub line-ended-spec : {M : Type 1} → statement M
 line-ended-spec =
