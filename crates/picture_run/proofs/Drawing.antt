@@ -33,9 +33,14 @@ module _ (image : Image) (out : Outputs) (d : Drawable image (out .grey) (out .t
   fits : roomless image out ≡ false
   unfolding roomless
   fits =
-      simp (le-ltb (length (out .grey)) (length (greymapOf image)) (omega (arith, d .grey, greymap-length image whole)), le-ltb (length (out .text)) (length (textOf (image .lines))) (omega (arith, d .text, text-short)))
+      simp (
+        le-ltb (length (out .grey)) (length (greymapOf image)) (omega (arith, d .grey, greymap-length image whole)),
+        le-ltb
+            (length (out .text)) (length (textOf (image .lines))) (omega (arith, d .text, text-short)),
+      )
 
-  both : accepted (lengths (length (greymapOf image)) (length (textOf (image .lines)))) (outputs (written (greymapOf image) (out .grey)) (written (textOf (image .lines)) (out .text))) ≡ writing image out
+  both : accepted (lengths (length (greymapOf image)) (length (textOf (image .lines))))
+      (outputs (written (greymapOf image) (out .grey)) (written (textOf (image .lines)) (out .text))) ≡ writing image out
   unfolding writing
   both = passed _ _ _ _ whole (passed _ _ _ _ fits refl)
 
@@ -48,15 +53,21 @@ module _ (image : Image) (out : Outputs) (d : Drawable image (out .grey) (out .t
       ∙ take-append-seam s (drop (length s) o)
 
   module _ {out′ : Outputs} where
-    pub drawn : {r : PictureWritten} {l : Lengths} → r ≡ answers.Lengths l → Writes image out r out′ → Drawn image l (out′ .grey) (out′ .text)
+    pub drawn : {r : PictureWritten} {l : Lengths} → r ≡ answers.Lengths l → Writes image out r out′ → Drawn image l (out′ .grey)
+        (out′ .text)
     drawn {r} {l} e w =
-        let o : observed (answers.Lengths l) out′ ≡ accepted (lengths (length (greymapOf image)) (length (textOf (image .lines)))) (outputs (written (greymapOf image) (out .grey)) (written (textOf (image .lines)) (out .text))) = ap (λ (x : PictureWritten). observed x out′) (sym e) ∙ w ∙ sym both in
+        let o : observed (answers.Lengths l) out′ ≡ accepted (lengths (length (greymapOf image)) (length (textOf (image .lines))))
+        (outputs (written (greymapOf image) (out .grey)) (written (textOf (image .lines)) (out .text))) = ap
+        (λ (x : PictureWritten). observed x out′) (sym e) ∙ w ∙ sym both in
         record {
-          grey = front _ _ _ _ (ap (λ (x : Outcome Lengths Outputs). x .lent .grey) o) (ap (λ (x : Outcome Lengths Outputs). x .answer .fields .grey) o);
-          text = front _ _ _ _ (ap (λ (x : Outcome Lengths Outputs). x .lent .text) o) (ap (λ (x : Outcome Lengths Outputs). x .answer .fields .text) o);
+          grey = front _ _ _ _ (ap (λ (x : Outcome Lengths Outputs). x .lent .grey) o)
+              (ap (λ (x : Outcome Lengths Outputs). x .answer .fields .grey) o);
+          text = front _ _ _ _ (ap (λ (x : Outcome Lengths Outputs). x .lent .text) o)
+              (ap (λ (x : Outcome Lengths Outputs). x .answer .fields .text) o);
         }
 
     pub never-refused : {r : PictureWritten} {n : ℕ} → r ≡ answers.Refused n → Writes image out r out′ → ⊥
     never-refused {r} {n} e w =
-        let o : observed r out′ ≡ accepted (lengths (length (greymapOf image)) (length (textOf (image .lines)))) (outputs (written (greymapOf image) (out .grey)) (written (textOf (image .lines)) (out .text))) = w ∙ sym both in
+        let o : observed r out′ ≡ accepted (lengths (length (greymapOf image)) (length (textOf (image .lines))))
+        (outputs (written (greymapOf image) (out .grey)) (written (textOf (image .lines)) (out .text))) = w ∙ sym both in
         true≢false (sym (ap (λ (x : Outcome Lengths Outputs). x .answer .accepted) o) ∙ ap (λ (x : PictureWritten). told x .accepted) e)

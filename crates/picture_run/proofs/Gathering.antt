@@ -2,19 +2,15 @@
 use Prim.Native.Nat.{ℕ, _+_, _-_, _≤_}
 use mathlib.Core.Path.{_≡_, refl, sym, ap, _∙_, subst}
 use mathlib.Core.List.{List, [], _∷_, _++_, map, append-assoc, append-nil}
-use mathlib.Core.Bool.{Bool, true, false, true≢false}
+use mathlib.Core.Bool.{Bool, false, true≢false}
 use native.Mathlib.Omega.{arith}
-use types.Run.{OneOf, miss}
-use denote.Enum.Declared.{tagOf}
 use lib.Dec.{eqb}
-use borrow.Author.Tests.{eqb-true}
 use lib.ListN.{length, take, drop, length-append, length-map}
 use lib.Seq.{take-at, drop-at}
 use Rattle.octets.specs.Parts.{part, written}
 use Rattle.octets.specs.Pick.{pick}
 use Rattle.octets.proofs.Choices.{picks}
 use Rattle.octets.proofs.Placing.{part-some}
-use Rattle.answer.specs.declared.Refusal.{Refusal}
 use Rattle.stretch.specs.Stretch.{Stretch, found, unread}
 use Rattle.rules.specs.Channel.{Handed}
 use Rattle.rules.specs.Packets.{bare, joined}
@@ -28,7 +24,7 @@ use Rattle.source.specs.declared.Source.{Source}
 use Rattle.source.specs.declared.Taken.{Taken}
 use Rattle.source.specs.declared.Taken.the-variants as taken
 use Rattle.session.specs.Open.{opening}
-use Rattle.session.specs.Lent.{Lent, lent, Enough}
+use Rattle.session.specs.Lent.{Lent, Enough}
 use Rattle.session.specs.Step.{Outcome}
 use Rattle.session.specs.Statements.{offered}
 use Rattle.session.specs.declared.Accepted.{Accepted}
@@ -44,18 +40,13 @@ use Rattle.receiver.specs.declared.Received.{Received as Called}
 use Rattle.receiver.specs.declared.Event.{Event}
 use Rattle.receiver.specs.declared.Event.the-variants as event
 use Rattle.receiver.proofs.Enough.{same-outcome}
-use Rattle.image.specs.Placing.{outcome}
 use Rattle.telling.specs.Counts.{counted}
-use Rattle.window.specs.declared.Refilled.{Refilled}
-use Rattle.feed.specs.Pull.{handOf, atEnd, pulled, Missed, Pulls}
+use Rattle.feed.specs.Pull.{atEnd, pulled}
 use Rattle.feed.specs.declared.Pull.{Pull}
 use Rattle.feed.specs.declared.Pull.the-variants as pull
-use Rattle.feed.specs.declared.Pulled.{Pulled}
-use Rattle.feed.proofs.Pull.{the-type}
-use Rattle.picture_run.specs.Received.{Received, leaving, allPlaced, packetsIn}
-use Rattle.picture_run.specs.Gathered.{Gathered, handedPlaced, withStep, withItems, withOctets, withTells, withAnswer, withPull}
-use Rattle.picture_run.specs.Gathered.{goesOn, foundBad, Heeds, Turned, PlacesHanded}
-use Rattle.picture_run.specs.declared.State.{State}
+use Rattle.picture_frame.specs.Received.{Received, leaving, allPlaced, packetsIn}
+use Rattle.picture_run.specs.Gathered.{Gathered, handedPlaced, withStep, withItems, withOctets, withTells, withPull}
+use Rattle.picture_run.specs.Gathered.{goesOn, PlacesHanded}
 
 -- ---- the packets that stand in the lent octets are those that were handed out
 
@@ -88,8 +79,8 @@ laid-packets ps octets lengths n e =
 one-arrival : (wanted a : ℕ) (r : Received) (ps : List Handed) → Under a ps → allPlaced a wanted r (bare ps) ≡ handedPlaced wanted r ps
 one-arrival wanted a r [] u = refl
 one-arrival wanted a r (p ∷ ps) u =
-    one-arrival wanted a (leaving (outcome (p .packet) a wanted (r .image)) (r .refused)) ps (u .1)
-    ∙ ap (λ (k : ℕ). handedPlaced wanted (leaving (outcome (p .packet) k wanted (r .image)) (r .refused)) ps) (sym (u .0))
+    one-arrival wanted a (leaving (p .packet) a wanted r) ps (u .1)
+    ∙ ap (λ (k : ℕ). handedPlaced wanted (leaving (p .packet) k wanted r) ps) (sym (u .0))
 
 -- ---- by what a receiver tells
 
@@ -126,15 +117,19 @@ module _ (wanted : ℕ) (ps : List Handed) (octets lengths : List ℕ) (g : Gath
   abbrev lengths′ : List ℕ
   lengths′ = written (map length (bare ps)) lengths
 
-  answer-told : (a : StepAnswer) → Few-told (toldOf (event.Answered a)) ps → withAnswer wanted a octets′ lengths′ g ≡ withTells wanted (toldOf (event.Answered a)) ps g
+  answer-told : (a : StepAnswer) → Few-told (toldOf (event.Answered a)) ps
+      → withPull wanted (pull.Answered a) octets′ lengths′ g ≡ withTells wanted (toldOf (event.Answered a)) ps g
   unfolding pick
   answer-told (answer.Accepted a) f =
-      ap (λ (x : List (List ℕ)). record { received = allPlaced (a .arrival) wanted (g .received) x; frames = g .frames }) (laid-packets ps octets lengths (a .packets) (f .0))
+      ap (λ (x : List (List ℕ)). record { received = allPlaced (a .arrival) wanted (g .received) x; frames = g .frames })
+      (laid-packets ps octets lengths (a .packets) (f .0))
       ∙ ap (λ (x : Received). record { received = x; frames = g .frames }) (one-arrival wanted (a .arrival) (g .received) ps (f .1))
   answer-told (answer.Refused r) f =
-      ap (λ (x : List Handed). record { received = handedPlaced wanted (g .received) x; frames = counted (g .frames) (r .number) }) (no-packets ps (f .0))
+      ap (λ (x : List Handed). record { received = handedPlaced wanted (g .received) x; frames = counted (g .frames) (r .number) })
+      (no-packets ps (f .0))
 
-  pull-told : (e : Event) (s : Source) (failed : Bool) (n : ℕ) → Few-told (toldOf e) ps → withPull wanted (pulled e s failed n) octets′ lengths′ g ≡ withTells wanted (toldOf e) ps g
+  pull-told : (e : Event) (s : Source) (failed : Bool) (n : ℕ) → Few-told (toldOf e) ps → withPull wanted
+      (pulled e s failed n) octets′ lengths′ g ≡ withTells wanted (toldOf e) ps g
   unfolding atEnd
   pull-told (event.Missing m) s failed n f =
       let P : Pull → Type 0 = λ x. withPull wanted x octets′ lengths′ g ≡ g in
@@ -149,7 +144,8 @@ module _ (wanted : ℕ) (ps : List Handed) (octets lengths : List ℕ) (g : Gath
 
 -- what a stretch comes to, and then the rest
 one-more : (wanted : ℕ) (z : Session) (l : Lent) → Enough l → (x : Stretch) (rest : List Item) (g : Gathered)
-    → withItems wanted z (offers x ∷ rest) g ≡ withItems wanted (offered z x l .session) rest (withStep wanted (offered z x l .answer) (offered z x l .packets) g)
+    → withItems wanted z (offers x ∷ rest) g ≡ withItems wanted (offered z x l .session) rest
+    (withStep wanted (offered z x l .answer) (offered z x l .packets) g)
 one-more wanted z l e x rest g =
     ap (λ (o : Outcome). withItems wanted (o .session) rest (withStep wanted (o .answer) (o .packets) g)) (sym (same-outcome z x l e))
 
@@ -191,7 +187,8 @@ heard-none z s kept w l r kept′ (taken.Kept n) k e = tt
 heard-none z s kept w l r kept′ (taken.Refused n) k e = tt
 
 -- a run that ends
-ended : (wanted : ℕ) (z : Session) (xs : List Item) (ps : List Handed) (g : Gathered) (e : Event) (s : Source) (failed : Bool) (n : ℕ) → goesOn (pulled e s failed n) ≡ false
+ended : (wanted : ℕ) (z : Session) (xs : List Item) (ps : List Handed) (g : Gathered) (e : Event) (s : Source) (failed : Bool) (n : ℕ)
+    → goesOn (pulled e s failed n) ≡ false
     → None-left xs (toldOf e) → withTells wanted (toldOf e) ps g ≡ withItems wanted z xs g
 ended wanted z xs ps g (event.Missing m) s failed n h k = ap (λ (x : List Item). withItems wanted z x g) (sym k)
 ended wanted z xs ps g event.Bad s failed n h k = ap (λ (x : List Item). withItems wanted z x g) (sym k)
@@ -201,11 +198,12 @@ ended wanted z xs ps g event.Nothing s failed n h k = absurd (true≢false h)
 ended wanted z xs ps g (event.Answered a) s failed n h k = absurd (true≢false h)
 
 -- a call of a receiver
-module _ (wanted : ℕ) (a : Receiver) (kept w : List ℕ) {l : Lent} {q : Called} {kept′ : List ℕ} {l′ : Lent} (enough : Enough l) (c : Receives a kept w l q kept′ l′) (g : Gathered) where
-  abbrev next : Gathered
+module _ (wanted : ℕ) (a : Receiver) (kept w : List ℕ) {l : Lent} {q : Called} {kept′ : List ℕ} {l′ : Lent} (enough : Enough l)
+    (c : Receives a kept w l q kept′ l′) (g : Gathered) where
+  abbrev pub next : Gathered
   next = withTells wanted (receipt a kept w l .tells) (receipt a kept w l .packets) g
 
-  from-there : (p : List ℕ) → withOctets wanted a kept (w ++ p) g ≡ withOctets wanted (q .receiver) kept′ (drop (q .used) w ++ p) next
+  pub from-there : (p : List ℕ) → withOctets wanted a kept (w ++ p) g ≡ withOctets wanted (q .receiver) kept′ (drop (q .used) w ++ p) next
   unfolding receipt
   from-there p =
       ap (λ (f : Found). withItems wanted (a .session) (f .items) g) (finds (a .source) kept w .next p)
@@ -226,11 +224,13 @@ module _ (wanted : ℕ) (a : Receiver) (kept w : List ℕ) {l : Lent} {q : Calle
   none =
       let f = finds (a .source) kept w in
       subst (None-left (foundIn (a .source) kept w .items)) (sym (c .tells))
-      (heard-none (a .session) (a .source) kept w l (scanned (a .source) kept w) (keptBy (a .source) kept w) (scanned (a .source) kept w .taken) (f .told)
+      (heard-none (a .session) (a .source) kept w l (scanned (a .source) kept w) (keptBy (a .source) kept w)
+      (scanned (a .source) kept w .taken) (f .told)
       (ap (λ (x : List ℕ). foundIn (a .source) kept x .items) (sym (append-nil w)) ∙ ap (λ (x : Found). x .items) (f .next [])))
 
   -- what was pulled is what was told
-  gathers : {x : Pull} (failed : Bool) (n : ℕ) → x ≡ pulled (q .event) (a .source) failed n → withPull wanted x (l′ .octets) (l′ .lengths) g ≡ next
+  pub gathers : {x : Pull} (failed : Bool) (n : ℕ) → x ≡ pulled (q .event) (a .source) failed n → withPull wanted x (l′ .octets)
+      (l′ .lengths) g ≡ next
   gathers failed n e =
       let ps : List Handed = receipt a kept w l .packets in
       ap (λ (y : Pull). withPull wanted y (l′ .octets) (l′ .lengths) g) e
@@ -238,130 +238,24 @@ module _ (wanted : ℕ) (a : Receiver) (kept w : List ℕ) {l : Lent} {q : Calle
       ∙ pull-told wanted ps (l .octets) (l .lengths) g (q .event) (a .source) failed n few
       ∙ ap (λ (t : Tells). withTells wanted t ps g) (c .tells)
 
-  ends : {x : Pull} (failed : Bool) (n : ℕ) → x ≡ pulled (q .event) (a .source) failed n → goesOn x ≡ false → next ≡ withOctets wanted a kept w g
+  pub ends : {x : Pull} (failed : Bool) (n : ℕ) → x ≡ pulled (q .event) (a .source) failed n → goesOn x ≡ false
+      → next ≡ withOctets wanted a kept w g
   ends failed n e h =
       ap (λ (t : Tells). withTells wanted t (receipt a kept w l .packets) g) (sym (c .tells))
-      ∙ ended wanted (a .session) (foundIn (a .source) kept w .items) (receipt a kept w l .packets) g (q .event) (a .source) failed n (ap goesOn (sym e) ∙ h) none
-
--- ---- what the functions promise
-
--- a frame that was accepted, or refused
-pub accepted-frame : (wanted : ℕ) (octets lengths : List ℕ) (g : Gathered) {y : Received} {x : StepAnswer} {a : Accepted} → x ≡ answer.Accepted a
-    → y ≡ allPlaced (a .arrival) wanted (g .received) (packetsIn octets 0 (take (a .packets) lengths)) → record { received = y; frames = g .frames } ≡ withAnswer wanted x octets lengths g
-accepted-frame wanted octets lengths g h e =
-    ap (λ (z : Received). record { received = z; frames = g .frames }) e ∙ ap (λ (z : StepAnswer). withAnswer wanted z octets lengths g) (sym h)
-
-pub refused-frame : (wanted : ℕ) (octets lengths : List ℕ) (g : Gathered) {frames′ : List ℕ} {x : StepAnswer} {r : Refusal} → x ≡ answer.Refused r
-    → frames′ ≡ counted (g .frames) (r .number) → record { received = g .received; frames = frames′ } ≡ withAnswer wanted x octets lengths g
-refused-frame wanted octets lengths g h e =
-    ap (λ (z : List ℕ). record { received = g .received; frames = z }) e ∙ ap (λ (z : StepAnswer). withAnswer wanted z octets lengths g) (sym h)
-
--- by what was pulled
-module _ (wanted : ℕ) (octets lengths : List ℕ) (g : Gathered) where
-  pub more-comes : (p : Pull) → OneOf (0 ∷ 1 ∷ []) (tagOf the-type p) → Heeds wanted p octets lengths g true g
-  more-comes pull.More k = record { goes = refl; gathers = refl }
-  more-comes pull.Opened k = record { goes = refl; gathers = refl }
-  more-comes (pull.Answered a) k = absurd (miss (0 ∷ 1 ∷ []) 2 tt k)
-  more-comes pull.Bad k = absurd (miss (0 ∷ 1 ∷ []) 3 tt k)
-  more-comes pull.End k = absurd (miss (0 ∷ 1 ∷ []) 4 tt k)
-  more-comes pull.Cut k = absurd (miss (0 ∷ 1 ∷ []) 5 tt k)
-  more-comes pull.Failed k = absurd (miss (0 ∷ 1 ∷ []) 6 tt k)
-
-  pub none-comes : (p : Pull) → OneOf (3 ∷ 4 ∷ 5 ∷ 6 ∷ []) (tagOf the-type p) → Heeds wanted p octets lengths g false g
-  none-comes pull.More k = absurd (miss (3 ∷ 4 ∷ 5 ∷ 6 ∷ []) 0 tt k)
-  none-comes pull.Opened k = absurd (miss (3 ∷ 4 ∷ 5 ∷ 6 ∷ []) 1 tt k)
-  none-comes (pull.Answered a) k = absurd (miss (3 ∷ 4 ∷ 5 ∷ 6 ∷ []) 2 tt k)
-  none-comes pull.Bad k = record { goes = refl; gathers = refl }
-  none-comes pull.End k = record { goes = refl; gathers = refl }
-  none-comes pull.Cut k = record { goes = refl; gathers = refl }
-  none-comes pull.Failed k = record { goes = refl; gathers = refl }
-
-  pub one-answered : {p : Pull} {a : StepAnswer} {g′ : Gathered} → p ≡ pull.Answered a → g′ ≡ withAnswer wanted a octets lengths g → Heeds wanted p octets lengths g true g′
-  one-answered h e = record { goes = ap goesOn (sym h); gathers = e ∙ ap (λ (y : Pull). withPull wanted y octets lengths g) (sym h) }
-
-pub is-bad : (p : Pull) → OneOf (3 ∷ 5 ∷ []) (tagOf the-type p) → true ≡ foundBad p
-is-bad pull.More k = absurd (miss (3 ∷ 5 ∷ []) 0 tt k)
-is-bad pull.Opened k = absurd (miss (3 ∷ 5 ∷ []) 1 tt k)
-is-bad (pull.Answered a) k = absurd (miss (3 ∷ 5 ∷ []) 2 tt k)
-is-bad pull.Bad k = refl
-is-bad pull.End k = absurd (miss (3 ∷ 5 ∷ []) 4 tt k)
-is-bad pull.Cut k = refl
-is-bad pull.Failed k = absurd (miss (3 ∷ 5 ∷ []) 6 tt k)
-
-pub not-bad : (p : Pull) → OneOf (0 ∷ 1 ∷ 2 ∷ 4 ∷ 6 ∷ []) (tagOf the-type p) → false ≡ foundBad p
-not-bad pull.More k = refl
-not-bad pull.Opened k = refl
-not-bad (pull.Answered a) k = refl
-not-bad pull.Bad k = absurd (miss (0 ∷ 1 ∷ 2 ∷ 4 ∷ 6 ∷ []) 3 tt k)
-not-bad pull.End k = refl
-not-bad pull.Cut k = absurd (miss (0 ∷ 1 ∷ 2 ∷ 4 ∷ 6 ∷ []) 5 tt k)
-not-bad pull.Failed k = refl
-
--- none came where a run ends with no failed read; a failed read ends it
-none-came : (e : Event) (s : Source) (r : Refilled) → Missed e r → goesOn (pulled e s (r .failed) (r .came)) ≡ false → r .failed ≡ false
-    → r .came ≡ 0
-unfolding atEnd
-none-came (event.Missing n) s r m g f =
-    let P : Pull → Type 0 = λ x. goesOn x ≡ false → r .came ≡ 0 in
-    picks P (r .failed) _ _ (λ t _. absurd (true≢false (sym t ∙ f)))
-    (λ _. picks P (eqb (r .came) 0) _ _ (λ z _. eqb-true (r .came) 0 z) (λ _ h. absurd (true≢false h))) g
-none-came event.Bad s r m g f = ap (λ (x : Refilled). x .came) m
-none-came event.Over s r m g f = ap (λ (x : Refilled). x .came) m
-none-came event.Opened s r m g f = absurd (true≢false g)
-none-came event.Nothing s r m g f = absurd (true≢false g)
-none-came (event.Answered a) s r m g f = absurd (true≢false g)
-
-failed-ends : (e : Event) (s : Source) (r : Refilled) → Missed e r → r .failed ≡ true → goesOn (pulled e s (r .failed) (r .came)) ≡ false
-unfolding atEnd pick
-failed-ends (event.Missing n) s r m f =
-    ap (λ (b : Bool). goesOn (pick b pull.Failed (pick (eqb (r .came) 0) (pick (cutAt s) pull.Cut pull.End) pull.More))) f
-failed-ends event.Bad s r m f = refl
-failed-ends event.Over s r m f = refl
-failed-ends event.Opened s r m f = absurd (true≢false (sym f ∙ ap (λ (x : Refilled). x .failed) m))
-failed-ends event.Nothing s r m f = absurd (true≢false (sym f ∙ ap (λ (x : Refilled). x .failed) m))
-failed-ends (event.Answered a) s r m f = absurd (true≢false (sym f ∙ ap (λ (x : Refilled). x .failed) m))
-
-empty : (l : List ℕ) → length l ≡ 0 → l ≡ []
-empty [] h = refl
-empty (x ∷ l) h = absurd (omega arith)
-
-pub turned : (wanted : ℕ) (s : State) (input kept : List ℕ) {l : Lent} (g : Gathered) (r : Pulled) {input′ kept′ : List ℕ} {l′ : Lent}
-    {going bad : Bool} {g′ : Gathered} → Enough l → Pulls (s .feed) input (s .receiver) kept l r input′ kept′ l′
-    → Heeds wanted (r .pull) (l′ .octets) (l′ .lengths) g going g′ → bad ≡ foundBad (r .pull)
-    → Turned wanted s input kept l g (record { feed = r .feed; receiver = r .receiver; going = going; bad = bad; read = r .read })
-    input′ kept′ l′ g′
-turned wanted s input kept {l} g r {input′} {kept′} {l′} {going} {bad} {g′} enough x h b =
-    let a : Receiver = s .receiver in
-    let w : List ℕ = handOf (s .feed) input in
-    let failed = r .read .failed in
-    let came = r .read .came in
-    let e : g′ ≡ next wanted a kept w enough (x .calls) g =
-    h .gathers ∙ gathers wanted a kept w enough (x .calls) g failed came (x .tells) in
-    let stops : going ≡ goesOn (pulled (x .received .event) (a .source) failed came) = h .goes ∙ ap goesOn (x .tells) in
-    record {
-      pulled = r .pull;
-      pulls = x;
-      going = h .goes;
-      bad = b;
-      gathers = e;
-      goes = λ p. from-there wanted a kept w enough (x .calls) g (x .piece ++ p)
-          ∙ ap (λ (y : Gathered). withOctets wanted (x .received .receiver) kept′ (drop (x .received .used) w ++ (x .piece ++ p)) y) (sym e)
-          ∙ ap (λ (y : List ℕ). withOctets wanted (x .received .receiver) kept′ y g′) (sym (append-assoc (drop (x .received .used) w) (x .piece) p) ∙ ap (λ (y : List ℕ). y ++ p) (sym (x .window)))
-          ∙ ap (λ (b : Receiver). withOctets wanted b kept′ (handOf (r .feed) input′ ++ p) g′) (sym (x .receiver));
-      ends = λ f. e ∙ ends wanted a kept w enough (x .calls) g failed came (x .tells) (sym (h .goes) ∙ f);
-      none = λ f d. empty (x .piece) (x .many ∙ none-came (x .received .event) (a .source) (r .read) (x .only) (sym stops ∙ f) d);
-      fails = λ f. stops ∙ failed-ends (x .received .event) (a .source) (r .read) (x .only) f;
-    }
+      ∙ ended wanted (a .session) (foundIn (a .source) kept w .items) (receipt a kept w l .packets) g (q .event) (a .source) failed n
+      (ap goesOn (sym e) ∙ h) none
 
 -- ---- what is placed is what is handed out
 
-placed-both : (wanted : ℕ) (r : Received) (ps qs : List Handed) → handedPlaced wanted (handedPlaced wanted r ps) qs ≡ handedPlaced wanted r (ps ++ qs)
+placed-both : (wanted : ℕ) (r : Received) (ps qs : List Handed) → handedPlaced wanted (handedPlaced wanted r ps) qs ≡ handedPlaced wanted r
+    (ps ++ qs)
 placed-both wanted r [] qs = refl
-placed-both wanted r (p ∷ ps) qs = placed-both wanted (leaving (outcome (p .packet) (p .arrival) wanted (r .image)) (r .refused)) ps qs
+placed-both wanted r (p ∷ ps) qs = placed-both wanted (leaving (p .packet) (p .arrival) wanted r) ps qs
 
 pub places-handed : PlacesHanded
 places-handed wanted s [] g = refl
 places-handed wanted s (opens t ∷ xs) g = places-handed wanted (opening t 0 .session) xs g
 places-handed wanted s (offers x ∷ xs) g =
     let o : Outcome = offered s x roomy in
-    places-handed wanted (o .session) xs (withStep wanted (o .answer) (o .packets) g) ∙ placed-both wanted (g .received) (o .packets) (handedIn (o .session) xs)
+    places-handed wanted (o .session) xs (withStep wanted (o .answer) (o .packets) g) ∙ placed-both wanted (g .received) (o .packets)
+    (handedIn (o .session) xs)

@@ -1,4 +1,4 @@
-pub mod Packets
 pub mod Gathering
+pub mod Turning
 pub mod Drawing
 pub mod Whole

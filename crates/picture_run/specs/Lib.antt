@@ -1,4 +1,3 @@
-pub mod Received
 pub mod Gathered
 pub mod Files
 pub mod Whole

@@ -1,3 +1,4 @@
 pub mod Turning
 pub mod Ending
 pub mod Fillings
+pub mod Whole

@@ -4,10 +4,9 @@ use native.Mathlib.Omega.{arith}
 use native.Mathlib.Numerals.{add-one}
 use mathlib.Core.Path.{_≡_, refl, sym, ap, _∙_}
 use mathlib.Core.Bool.{Bool, true, false}
-use mathlib.Core.List.{List, [], _∷_}
+use mathlib.Core.List.{List}
 use lib.ListN.{length, drop, drop-of-length-le}
 use lib.Seq.{drop-cons}
-use lib.Dec.{eqb, leb}
 use borrow.Author.Tests.{eq-eqb, ne-eqb, le-leb, lt-leb}
 use Rattle.octets.specs.Numbers.{at}
 use Rattle.octets.specs.Pick.{pick}
@@ -20,24 +19,10 @@ use Rattle.transmit_settings.specs.declared.Fault.the-variants.{Nothing}
 use Rattle.transmit_settings.specs.declared.State.{State}
 use Rattle.transmit_settings.specs.declared.Stepped.{Stepped}
 use Rattle.transmit_settings.proofs.Setting.{here, past}
-use Rattle.transmit_steps.specs.Step.{Lent, lent, Outcome, outcome, stepping}
+use Rattle.transmit_steps.specs.Step.{Lent, lent, outcome, stepping}
 use Rattle.transmit_recording.specs.Recording.{losing}
-use Rattle.transmit_run.specs.Turn.{
-  lineFeed,
-  lineOf,
-  LineEnds,
-  linkWord,
-  place,
-  Turned,
-  turned,
-  usedUp,
-  turning,
-  isFault,
-  freshPlace,
-  Run,
-  run,
-  running,
-}
+use Rattle.transmit_run.specs.Turn.{lineFeed, lineOf, LineEnds, linkWord, place, Turned, turned, usedUp, turning, isFault, freshPlace}
+use Rattle.transmit_run.specs.Turn.{Run, run, running}
 use Rattle.transmit_run.specs.declared.Place.{Place}
 
 -- the octets from index from up to i are no line feed
@@ -71,7 +56,8 @@ module _ (s : List ℕ) (from i : ℕ) (b : Before s from i) where
 
 -- ---- a turn
 
-module _ (before : Place) (script : List ℕ) (from end : ℕ) (l : Lent) {line w : List ℕ} (pl : line ≡ part script from (end - from)) (pw : w ≡ wordOf line)
+module _ (before : Place) (script : List ℕ) (from end : ℕ) (l : Lent) {line w : List ℕ} (pl : line ≡ part script from (end - from))
+    (pw : w ≡ wordOf line)
     {b : Bool} (t : b ≡ same w linkWord) where
   worded : b ≡ same (wordOf (part script from (end - from))) linkWord
   worded = t ∙ ap (λ (x : List ℕ). same x linkWord) (pw ∙ ap wordOf pl)
@@ -101,7 +87,8 @@ module _ (before : Place) (script : List ℕ) (from end : ℕ) (l : Lent) {line 
         past _ _ worded k
         (ap (λ (x : ℕ). turned (place (r .state) x left (r .fault)) (lent stamp packets lengths made frames′)) lk
         ∙ ap (λ (x : ℕ). turned (place (r .state) ((before .link + m) % 2 ^ 64) x (r .fault)) (lent stamp packets lengths made frames′)) lf
-        ∙ ap (λ (x : List ℕ). turned (place (r .state) ((before .link + m) % 2 ^ 64) (before .signs - m) (r .fault)) (lent stamp packets lengths made x)) fs
+        ∙ ap (λ (x : List ℕ). turned (place (r .state) ((before .link + m) % 2 ^ 64) (before .signs - m) (r .fault))
+        (lent stamp packets lengths made x)) fs
         ∙ ap (usedUp before script) (e ∙ ap (λ (x : List ℕ). stepping (before .state) x l) pl))
 
 -- ---- all lines
@@ -130,7 +117,8 @@ module _ (script : List ℕ) (whole : Run) (l : Lent) (p : Place) (n from : ℕ)
       go zero = refl
       go (suc k) = sym (picked _ _ _ (le-leb _ _ h))
 
-  module _ (h : from < length script) (end : ℕ) (e : LineEnds script from end) (p′ : Place) (l′ : Lent) (t : turned p′ l′ ≡ turning p script from end l)
+  module _ (h : from < length script) (end : ℕ) (e : LineEnds script from end) (p′ : Place) (l′ : Lent)
+      (t : turned p′ l′ ≡ turning p script from end l)
       (m : ℕ) (pm : m ≡ (n + 1) % 2 ^ 64) where
     abbrev onward : ℕ → ℕ → Turned → ℕ → Run
     onward k x y z = pick (isFault (y .place .fault)) (run (y .place) z (y .lent)) (running k (y .place) script (x + 1) z (y .lent))

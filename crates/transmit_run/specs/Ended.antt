@@ -20,4 +20,5 @@ pub record Ends (r : Run) (e : Ended) : Type 0 where
   pub faulty : e .faulty ≡ isFault (r .place .fault)
   pub none : e .faulty ≡ true → e .written ≡ unwritten
   pub whole : e .faulty ≡ false
-      → e .written .size ≡ length (recordingOf (r .place .state .common .t) (r .lent .made) (take (r .place .state .made .count) (r .lent .frames)))
+      → e .written .size ≡ length (recordingOf (r .place .state .common .t) (r .lent .made)
+      (take (r .place .state .made .count) (r .lent .frames)))

@@ -1,3 +1,4 @@
 pub mod Turn
 pub mod Filled
 pub mod Ended
+pub mod Whole

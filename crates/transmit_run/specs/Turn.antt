@@ -57,7 +57,8 @@ usedUp before script o =
     (lent (o .lent .stamp) (o .lent .packets) (o .lent .lengths) (o .lent .made)
     (losing more (part script (before .link) (before .signs)) (o .lent .frames) first))
 
--- A line from one index of the script up to another. A line `link` gives the signs that stand behind its word and a space; any other is a step.
+-- A line from one index of the script up to another. A line `link` gives the signs that stand behind its word and a space; any other is a
+-- step.
 unfoldable pub turning : Place → List ℕ → ℕ → ℕ → Lent → Turned
 turning before script at end l =
     let line = part script at (end - at) in

@@ -10,6 +10,7 @@ ghost use Rattle.window.specs.Window.{hand};
 ghost use Rattle.transmit_run.specs.Turn.{LineEnds, turned, turning, isFault, freshPlace, run, running};
 ghost use Rattle.transmit_run.specs.Filled.{Fills, Looped};
 ghost use Rattle.transmit_run.specs.Ended.{Ends, statusOf};
+ghost use Rattle.transmit_run.specs.Whole.{Makes, Reads};
 use libc::STDERR_FILENO;
 use transmit_settings::Fault;
 use transmit_settings::State;
@@ -153,7 +154,8 @@ fn over(
     made: &mut [u8],
     frames: &mut [u16],
 ) -> Ran
-    ensures { λ r. ⌜ run (r .place) (r .lines) (lent (now (stamp .exit)) (now (packets .exit)) (now (lengths .exit)) (now (made .exit)) (now (frames .exit)))
+    ensures { λ r. ⌜ run (r .place) (r .lines)
+        (lent (now (stamp .exit)) (now (packets .exit)) (now (lengths .exit)) (now (made .exit)) (now (frames .exit)))
         ≡ running (length (now (script .entry))) freshPlace (now (script .entry)) 0 0
         (lent (now (stamp .entry)) (now (packets .entry)) (now (lengths .entry)) (now (made .entry)) (now (frames .entry))) ⌝ }
 {
@@ -320,9 +322,12 @@ fn fill(name: &[u8], source: i32, script: &mut [u8]) -> Filled
     Filled { state, made }
 }
 
-// Makes the recording of the script that comes by the descriptor source, on standard output, and answers the exit status. What fails is told
+// Makes the recording of the script that comes by the descriptor source, on standard output, and answers the exit status. What fails is
+// told
 // on standard error, behind the program's name.
-pub fn run(name: &[u8], source: i32) -> i32 {
+pub fn run(name: &[u8], source: i32) -> i32
+    ensures { λ r. ⌜ Reads r ⌝ }
+{
     let mut script = io::large_buffer();
     let filled = fill(name, source, &mut script);
     let state = filled.state;
@@ -340,7 +345,9 @@ pub fn run(name: &[u8], source: i32) -> i32 {
 }
 
 // The same with the script's octets.
-fn made_of(name: &[u8], script: &[u8]) -> i32 {
+fn made_of(name: &[u8], script: &[u8]) -> i32
+    ensures { λ r. ⌜ Makes (now (script .entry)) r ⌝ }
+{
     let mut stamp = [0u8; 8];
     let mut packets = [0u8; 32768];
     let mut lengths = [0u16; 2048];

@@ -1,5 +1,5 @@
--- `found_bad` meets its contract.
-use Rattle.picture_run.proofs.Gathering.{is-bad, not-bad}
+-- `picture_run::found_bad` meets its contract.
+use Rattle.picture_run.proofs.Turning.{is-bad, not-bad}
 use Rattle.picture_run.proofs.found_bad.Statement.{statement}
 use Rattle.picture_run.proofs.found_bad.Tie as tie
 

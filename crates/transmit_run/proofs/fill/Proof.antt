@@ -1,9 +1,8 @@
 -- `transmit_run::fill` meets its contract.
 use Prim.Native.Nat.{_-_, _≤_}
-use mathlib.Core.Path.{_≡_, refl, sym, _∙_, subst}
+use mathlib.Core.Path.{_≡_, refl, _∙_}
 use lib.ListN.{length}
 use native.Mathlib.Omega.{arith}
-use denote.Ref.{now}
 use borrow.Author.Needs.{needs}
 use Rattle.window.specs.Turns.{Made, most}
 use Rattle.window.proofs.Looping.{at-first, one-more, stopped, all-made}

@@ -16,17 +16,27 @@ returns c =
 
 hand-on-requires : tie.Need-hand-on-requires
 hand-on-requires c κs =
-    let o = c .before .before .before .before .before .before .before .before .before .before .before .before .before .before .before .before .before .before .before .before in
+    let c14 = c .before .before .before .before .before .before .before .before .before .before .before .before .before .before in
+    let o = c14 .before .before .before .before .before .before in
     let k = o .over .kept in
-    omega (arith, ap length (c .before .front .ensures), take-short (o .over .result .place .state .made .count) (o .over .last .1 .1 .1 .1 .1 .0), k .1 .1 .1 .1 .0, k .1 .1 .1 .1 .1 .0, o .before .before .before .before .before .before .before .before .before .before .before .before .before .before .pre)
+    omega (
+      arith,
+      ap length (c .before .front .ensures),
+      take-short (o .over .result .place .state .made .count)
+          (o .over .last .1 .1 .1 .1 .1 .0),
+      k .1 .1 .1 .1 .0,
+      k .1 .1 .1 .1 .1 .0,
+      o .before .before .before .before .before .before .before .before .before .before .before .before .before .before .pre,
+    )
 
 returns-2 : tie.Need-returns-2
 returns-2 c =
-    let h = c .before .before in
     let i = c .before .before .before .before .before .before .before .before .before .before in
+    let h = c .before .before in
     let f = i .before in
     let o = f .before .before .before .before .before .before .before .before .before .before .before .before in
-    ends-whole (o .over .ensures) (h .hand-on .result) (f .faulty .ensures) (i .if1 .left) (h .before .before .front .ensures) (h .hand-on .ensures)
+    ends-whole (o .over .ensures) (h .hand-on .result) (f .faulty .ensures) (i .if1 .left) (h .before .before .front .ensures)
+    (h .hand-on .ensures)
 
 pub lines-spec : {M : Type 1} → statement M
 lines-spec =

@@ -7,12 +7,16 @@ use Rattle.transmit_run.proofs.more.Statement.{statement}
 use Rattle.transmit_run.proofs.more.Tie as tie
 
 returns : tie.Need-returns
-returns c = let a = c .before .before .before .before .args in fills-none (a .before) (now (a .script)) (c .before .if1 .taken) (c .none .ensures)
+returns c =
+    let c4 = c .before .before .before .before in
+    let a = c4 .args in fills-none (a .before) (now (a .script)) (c .before .if1 .taken) (c .none .ensures)
 
 returns-2 : tie.Need-returns-2
 returns-2 c =
-    let a = c .before .before .before .before .before .before .before .before .before .args in
-    fills (a .before) (now (a .script)) (c .before .before .before .before .refill .ensures) (c .before .have .ensures) (c .came .ensures) refl
+    let c4 = c .before .before .before .before in
+    let c9 = c4 .before .before .before .before .before in
+    let a = c9 .args in
+    fills (a .before) (now (a .script)) (c4 .refill .ensures) (c .before .have .ensures) (c .came .ensures) refl
 
 pub more-spec : {M : Type 1} → statement M
 more-spec =

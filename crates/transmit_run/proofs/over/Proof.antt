@@ -27,14 +27,16 @@ loop-holds c =
       search needs,
       search needs,
       search needs,
-      started (a .script .now) (lent (a .stamp .now) (a .packets .now) (a .lengths .now) (a .made .now) (a .frames .now)) (c .fresh .ensures),
+      started (a .script .now) (lent (a .stamp .now) (a .packets .now) (a .lengths .now) (a .made .now) (a .frames .now))
+          (c .fresh .ensures),
     )
 
 returns : tie.Need-returns Inv-loop μ-loop
 returns c =
     let k = c .before .before .before .before .before .before .before .before .before .before .before .before .before .before .before .before .before .before .before in
     let o = k .before .before .loop in
-    stops _ _ _ _ _ (o .at) (o .inv .5) (k .before .loop-test .taken) (k .line-end .result) (k .line-end .ensures) _ _ (c .before .before .before .before .before .before .before .before .before .before .before .before .before .turn .ensures) _
+    stops _ _ _ _ _ (o .at) (o .inv .5) (k .before .loop-test .taken) (k .line-end .result) (k .line-end .ensures) _ _
+    (c .before .before .before .before .before .before .before .before .before .before .before .before .before .turn .ensures) _
     (c .before .before .wrapping-add-u64 .ensures) _ (c .before .faulty .ensures) (c .if1 .taken)
 
 loop-again : tie.Need-loop-again Inv-loop μ-loop
@@ -46,7 +48,8 @@ loop-again c =
       search needs,
       search needs,
       search needs,
-      goes-on _ _ _ _ _ (o .at) (o .inv .5) (k .before .loop-test .taken) (k .line-end .result) (k .line-end .ensures) _ _ (c .before .before .before .before .before .before .before .before .before .before .before .before .before .turn .ensures) _
+      goes-on _ _ _ _ _ (o .at) (o .inv .5) (k .before .loop-test .taken) (k .line-end .result) (k .line-end .ensures) _ _
+          (c .before .before .before .before .before .before .before .before .before .before .before .before .before .turn .ensures) _
           (c .before .before .wrapping-add-u64 .ensures) _ (c .before .faulty .ensures) (c .if1 .left),
     )
 
@@ -57,5 +60,7 @@ pub over-spec : {M : Type 1} → statement M
 over-spec =
     tie.close
     (tie.spec
-    Inv-loop μ-loop (λ c κs. search needs) loop-holds (λ c κs. search needs) (λ c κs. search needs) (λ c κs. search needs) (λ c κs. search needs) (λ c. search needs) (λ c. search needs) (λ c. search needs) (λ c. search needs) (λ c. search needs) returns
-    (λ c. search needs) (λ c. search needs) loop-again (λ c. search needs) (λ c. search needs) (λ c. search needs) (λ c. search needs) (λ c. search needs) returns-2)
+    Inv-loop μ-loop (λ c κs. search needs) loop-holds (λ c κs. search needs) (λ c κs. search needs) (λ c κs. search needs)
+    (λ c κs. search needs) (λ c. search needs) (λ c. search needs) (λ c. search needs) (λ c. search needs) (λ c. search needs) returns
+    (λ c. search needs) (λ c. search needs) loop-again (λ c. search needs) (λ c. search needs) (λ c. search needs) (λ c. search needs)
+    (λ c. search needs) returns-2)
