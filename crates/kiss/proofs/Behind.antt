@@ -1,21 +1,19 @@
 -- What a reader holds of the octets that have come since the last 0xC0.
-use Prim.Native.Nat.{ℕ, zero, suc, _+_, _-_, _≤_, _<_, min}
+use Prim.Native.Nat.{ℕ, suc, _+_, _-_, _≤_, _<_, min}
 use mathlib.Core.Path.{_≡_, refl, sym, ap, ap₂, _∙_}
-use mathlib.Core.Bool.{Bool, true, false, not, _||_, cond}
+use mathlib.Core.Bool.{Bool, true, false, not, _||_}
 use mathlib.Core.List.{List, [], _∷_, _++_, append-assoc, append-nil}
 use native.Mathlib.Omega.{arith}
-use native.Mathlib.Numerals.{add-one}
 use lib.ListN.{length, getD, take, drop, set, length-append, length-take, length-drop}
-use lib.Seq.{take-all, take-append-le, take-at, set-at, drop-cons}
+use lib.Seq.{take-all, take-append-le, set-at, drop-cons}
 use lib.Dec.{ltb, eqb}
-use borrow.Author.Tests.{lt-ltb, le-ltb, ne-eqb, ltb-true, ltb-false}
+use borrow.Author.Tests.{ltb-true, ltb-false}
 use Rattle.octets.specs.Pick.{pick}
 use Rattle.stretch.specs.Stretch.{mostKept}
-use Rattle.kiss.specs.Stream.{mark, escape}
-use Rattle.kiss.specs.Reader.{Standing, standing, reader, begun, meant, misplaced, taking, after}
+use Rattle.kiss.specs.Stream.{escape}
+use Rattle.kiss.specs.Reader.{Standing, standing, reader, meant, misplaced, taking, after}
 use Rattle.kiss.proofs.Escapes.{plain, wrong, unanswered, plain-more, wrong-more, unanswered-more}
 use Rattle.kiss.proofs.Scanning.{takes-type, takes-one, takes-none}
-use Rattle.kiss.proofs.Finding.{length-after}
 
 -- ---- of the octets q with their escapes taken off: the type octet, their number up to 276, and the frame's first 275
 
@@ -41,7 +39,13 @@ length-snoc f v = length-append f (v ∷ []) ∙ (omega arith)
 
 pub length-keeping : (q o : List ℕ) → length o ≡ mostKept → length (keeping q o) ≡ mostKept
 length-keeping q o h =
-    omega (arith, length-append (take mostKept (rest q)) (drop (length (take mostKept (rest q))) o), length-drop (length (take mostKept (rest q))) o, length-take mostKept (rest q))
+    omega (
+      arith,
+      length-append (take mostKept (rest q)) (drop (length (take mostKept (rest q))) o),
+      length-drop
+          (length (take mostKept (rest q))) o,
+      length-take mostKept (rest q),
+    )
 
 -- one more
 next-held : (z e w : Bool) (q o : List ℕ) (v : ℕ) → length o ≡ mostKept
@@ -67,7 +71,8 @@ next-held z e w (t ∷ q) o v h = go (ltb (length q) mostKept) refl
         let l : mostKept ≤ length q = ltb-false (length q) mostKept a in
         let n : counted (t ∷ q) ≡ counted (t ∷ (q ++ v ∷ [])) = omega (arith, length-snoc q v) in
         takes-none _ _ _ (λ x. omega arith) (omega arith)
-        ∙ ap₂ (λ (m : ℕ) (r : List ℕ). standing (reader z e w (odd (t ∷ q)) m) (r ++ drop (length r) o)) n (sym (take-append-le mostKept q (v ∷ []) l))
+        ∙ ap₂ (λ (m : ℕ) (r : List ℕ). standing (reader z e w (odd (t ∷ q)) m) (r ++ drop (length r) o)) n
+        (sym (take-append-le mostKept q (v ∷ []) l))
 
 -- ---- of all octets p since the last 0xC0; z: whether there was one
 
@@ -84,7 +89,8 @@ unfolding after pick
 behind-more z p o x l =
     go (unanswered false p) (eqb x escape) refl
     ∙ sym (ap₂ (λ (q : List ℕ) (w : Bool). holding z (unanswered false (p ++ x ∷ [])) w q o) (plain-more false p x) (wrong-more false p x)
-    ∙ ap (λ (e : Bool). holding z e (wrong false p || wrong (unanswered false p) (x ∷ [])) (plain false p ++ plain (unanswered false p) (x ∷ [])) o) (unanswered-more false p x))
+    ∙ ap (λ (e : Bool). holding z e (wrong false p || wrong (unanswered false p) (x ∷ []))
+    (plain false p ++ plain (unanswered false p) (x ∷ [])) o) (unanswered-more false p x))
   where
     q : List ℕ
     q = plain false p
@@ -96,6 +102,8 @@ behind-more z p o x l =
         → pick e (taking (reader z false (w || misplaced x) (odd q) (counted q)) (keeping q o) (meant x))
         (pick t (standing (reader z true w (odd q) (counted q)) (keeping q o)) (taking (reader z e w (odd q) (counted q)) (keeping q o) x))
         ≡ holding z (unanswered e (x ∷ [])) (w || wrong e (x ∷ [])) (q ++ plain e (x ∷ [])) o
-    go true t h = next-held z false (w || misplaced x) q o (meant x) l ∙ ap (λ (b : Bool). holding z false (w || b) (q ++ meant x ∷ []) o) (sym (or-false (misplaced x)))
+    go true t h =
+        next-held z false (w || misplaced x) q o (meant x) l ∙ ap (λ (b : Bool). holding z false (w || b) (q ++ meant x ∷ []) o)
+        (sym (or-false (misplaced x)))
     go false true h = rw (h, append-nil q, or-false w)
     go false false h = rw (h, or-false w) (next-held z false w q o x l)

@@ -1,7 +1,7 @@
 -- 11 cannot occur.
-use Prim.Native.Nat.{ℕ, _+_, _<_, _≤_}
+use Prim.Native.Nat.{ℕ, _+_, _<_}
 use mathlib.Core.Path.{_≡_, refl, sym, ap, _∙_}
-use mathlib.Core.Bool.{Bool, true, false, _||_, false≢true, true≢false}
+use mathlib.Core.Bool.{Bool, true, false, _||_, false≢true}
 use mathlib.Core.List.{List, [], _∷_, _++_, map}
 use mathlib.Core.Option.{Option, none, some}
 use native.Mathlib.Omega.{arith}
@@ -35,7 +35,8 @@ typed-right : (o : Option (List ℕ)) → Each (λ x. checkWrong lowFirst (ones 
 typed-right none = tt
 typed-right (some []) = tt
 typed-right (some (t ∷ f)) =
-    picks (λ (s : Stretch). Each (λ x. checkWrong lowFirst (ones 16) x ≡ false) (s ∷ [])) _ _ _ (λ h. (crc.found lowFirst (ones 16) f, tt)) (λ h. tt)
+    picks (λ (s : Stretch). Each (λ x. checkWrong lowFirst (ones 16) x ≡ false) (s ∷ [])) _ _ _ (λ h. (crc.found lowFirst (ones 16) f, tt))
+    (λ h. tt)
 
 all-right : (ps : List (List ℕ)) → Each (λ x. checkWrong lowFirst (ones 16) x ≡ false) (stretchesOf ps)
 all-right [] = tt

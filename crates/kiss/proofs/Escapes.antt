@@ -5,7 +5,6 @@ use mathlib.Core.Bool.{Bool, true, false, not, _&&_, _||_, cond}
 use mathlib.Core.List.{List, [], _∷_, _++_}
 use mathlib.Core.Option.{Option, none, some}
 use lib.Dec.{eqb}
-use borrow.Author.Tests.{eqb-true}
 use Rattle.octets.specs.Pick.{pick}
 use Rattle.kiss.specs.Stream.{mark, escape, forMark, forEscape, withFirst, unescaped}
 use Rattle.kiss.specs.Reader.{meant, misplaced}
@@ -39,11 +38,13 @@ behind x false false s = refl
 
 -- an octet behind 0xDB
 answered : (y : ℕ) (w o : Bool) (s : List ℕ) (r : Option (List ℕ)) → r ≡ verdict w o s
-    → pick (eqb y forMark) (withFirst mark r) (pick (eqb y forEscape) (withFirst escape r) none) ≡ verdict (misplaced y || w) o (meant y ∷ s)
+    → pick (eqb y forMark) (withFirst mark r) (pick (eqb y forEscape) (withFirst escape r) none) ≡ verdict (misplaced y || w) o
+    (meant y ∷ s)
 unfolding pick meant
 answered y w o s r e = go (eqb y forMark) (eqb y forEscape)
   where
-    go : (t u : Bool) → pick t (withFirst mark r) (pick u (withFirst escape r) none) ≡ verdict (not t && not u || w) o (pick t mark (pick u escape y) ∷ s)
+    go : (t u : Bool) → pick t (withFirst mark r) (pick u (withFirst escape r) none) ≡ verdict (not t && not u || w) o
+        (pick t mark (pick u escape y) ∷ s)
     go true u = ap (withFirst mark) e ∙ behind mark w o s
     go false true = ap (withFirst escape) e ∙ behind escape w o s
     go false false = refl
@@ -60,8 +61,10 @@ unescaped-is (x ∷ y ∷ s) = go (eqb x escape) (unescaped-is s) (unescaped-is 
   where
     go : (t : Bool) → unescaped s ≡ verdict (wrong false s) (unanswered false s) (plain false s)
         → unescaped (y ∷ s) ≡ verdict (wrong false (y ∷ s)) (unanswered false (y ∷ s)) (plain false (y ∷ s))
-        → pick t (pick (eqb y forMark) (withFirst mark (unescaped s)) (pick (eqb y forEscape) (withFirst escape (unescaped s)) none)) (withFirst x (unescaped (y ∷ s)))
-        ≡ verdict (cond t (wrong true (y ∷ s)) (wrong false (y ∷ s))) (cond t (unanswered true (y ∷ s)) (unanswered false (y ∷ s))) (cond t (plain true (y ∷ s)) (x ∷ plain false (y ∷ s)))
+        → pick t (pick (eqb y forMark) (withFirst mark (unescaped s)) (pick (eqb y forEscape) (withFirst escape (unescaped s)) none))
+        (withFirst x (unescaped (y ∷ s)))
+        ≡ verdict (cond t (wrong true (y ∷ s)) (wrong false (y ∷ s))) (cond t (unanswered true (y ∷ s)) (unanswered false (y ∷ s)))
+        (cond t (plain true (y ∷ s)) (x ∷ plain false (y ∷ s)))
     go true a b = answered y (wrong false s) (unanswered false s) (plain false s) (unescaped s) a
     go false a b = ap (withFirst x) b ∙ behind x (wrong false (y ∷ s)) (unanswered false (y ∷ s)) (plain false (y ∷ s))
 
@@ -102,6 +105,7 @@ unanswered-more false (y ∷ p) x = go (eqb y escape) (unanswered-more true p x)
   where
     go : (t : Bool) → unanswered true (p ++ x ∷ []) ≡ unanswered (unanswered true p) (x ∷ [])
         → unanswered false (p ++ x ∷ []) ≡ unanswered (unanswered false p) (x ∷ [])
-        → cond t (unanswered true (p ++ x ∷ [])) (unanswered false (p ++ x ∷ [])) ≡ unanswered (cond t (unanswered true p) (unanswered false p)) (x ∷ [])
+        → cond t (unanswered true (p ++ x ∷ [])) (unanswered false (p ++ x ∷ [])) ≡ unanswered
+        (cond t (unanswered true p) (unanswered false p)) (x ∷ [])
     go true a b = a
     go false a b = b

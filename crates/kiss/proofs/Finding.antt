@@ -1,21 +1,20 @@
 -- A scan finds the first of what there is to be found.
-use Prim.Native.Nat.{ℕ, suc, _+_, _≤_, _<_, min}
+use Prim.Native.Nat.{ℕ, suc}
 use mathlib.Core.Path.{_≡_, refl, sym, ap, _∙_}
 use mathlib.Core.List.{List, [], _∷_, _++_}
-use mathlib.Core.Bool.{Bool, true, false}
+use mathlib.Core.Bool.{true, false}
 use native.Mathlib.Omega.{arith}
-use lib.ListN.{length, take, drop, set, length-set}
+use lib.ListN.{length, take, drop, length-set}
 use lib.Seq.{length-sets}
 use lib.Dec.{eqb}
-use Rattle.octets.specs.Pick.{pick}
 use Rattle.octets.proofs.Choices.{picked, passed, picks}
 use Rattle.bits.specs.Rows.Order.{lowFirst}
 use Rattle.crc.specs.Check.{frameCheck, octetsOf}
 use Rattle.stretch.specs.Stretch.{Fits}
-use Rattle.stretch.specs.declared.Found.{Found}
 use Rattle.stretch.specs.declared.Found.the-variants.{Nothing, Frame, Refused}
 use Rattle.kiss.specs.Stream.{mark}
-use Rattle.kiss.specs.Reader.{Standing, standing, begun, taking, after, holds, frameLength, sealed, Outcome, closed, further, scanned, toldBy, toFind, Finds, ScansFind}
+use Rattle.kiss.specs.Reader.{Standing, standing, begun, taking, after, holds, frameLength, sealed, Outcome, closed, further, scanned}
+use Rattle.kiss.specs.Reader.{toldBy, toFind, Finds, ScansFind}
 use Rattle.kiss.specs.declared.Reader.{Reader}
 
 -- ---- behind a 0xC0 something is told
@@ -42,7 +41,14 @@ unfolding closed
 closed-stops a kept =
     picks (Stops kept) _ _ _ (λ h. record { reader = refl; used = refl; tells = refusal-tells _; fits = tt; same = refl })
     (λ h. picks (Stops kept) _ _ _ (λ k. record { reader = refl; used = refl; tells = refusal-tells _; fits = tt; same = refl })
-    (λ k. record { reader = refl; used = refl; tells = frame-tells _; fits = omega (arith, length-sealed (frameLength (a .count)) kept); same = length-sealed _ kept }))
+    (λ k. record {
+      reader = refl;
+      used = refl;
+      tells = frame-tells _;
+      fits = omega
+          (arith, length-sealed (frameLength (a .count)) kept);
+      same = length-sealed _ kept;
+    }))
 
 -- ---- as many octets are kept as before
 
@@ -61,7 +67,8 @@ length-after a kept x =
 -- ---- one octet, then the others
 
 module _ (a : Standing) (x : ℕ) where
-  finds-further : (b : Standing) (w : List ℕ) (r : Outcome) → ((p : List ℕ) → toFind a (x ∷ p) ≡ toFind b p) → length (b .kept) ≡ length (a .kept)
+  finds-further : (b : Standing) (w : List ℕ) (r : Outcome) → ((p : List ℕ) → toFind a (x ∷ p) ≡ toFind b p) → length (b .kept) ≡ length
+      (a .kept)
       → Finds b w r → Finds a (x ∷ w) (further r)
   finds-further b w r e l f =
       record {
@@ -94,7 +101,8 @@ module _ (a : Standing) (x : ℕ) where
         same = s .same;
       }
 
-  pub to-find-past : (p : List ℕ) → eqb x mark ≡ true → holds (a .reader) ≡ false → toFind a (x ∷ p) ≡ toFind (standing (begun true) (a .kept)) p
+  pub to-find-past : (p : List ℕ) → eqb x mark ≡ true → holds (a .reader) ≡ false → toFind a (x ∷ p) ≡ toFind
+      (standing (begun true) (a .kept)) p
   unfolding toFind
   to-find-past p h k = sym (picked _ _ _ h) ∙ sym (passed _ _ _ _ k refl)
 
@@ -117,5 +125,7 @@ scans-find a [] =
 scans-find a (x ∷ w) =
     picks (Finds a (x ∷ w)) _ _ _
     (λ h. picks (Finds a (x ∷ w)) _ _ _ (λ k. finds-here a x w h k)
-    (λ k. finds-further a x (standing (begun true) (a .kept)) w _ (λ p. to-find-past a x p h k) refl (scans-find (standing (begun true) (a .kept)) w)))
-    (λ h. finds-further a x (after (a .reader) (a .kept) x) w _ (λ p. to-find-after a x p h) (length-after (a .reader) (a .kept) x) (scans-find (after (a .reader) (a .kept) x) w))
+    (λ k. finds-further a x (standing (begun true) (a .kept)) w _ (λ p. to-find-past a x p h k) refl
+    (scans-find (standing (begun true) (a .kept)) w)))
+    (λ h. finds-further a x (after (a .reader) (a .kept) x) w _ (λ p. to-find-after a x p h) (length-after (a .reader) (a .kept) x)
+    (scans-find (after (a .reader) (a .kept) x) w))

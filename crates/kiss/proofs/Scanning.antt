@@ -1,7 +1,7 @@
 -- A scan octet by octet.
 use Prim.Native.Nat.{ℕ, suc, _+_, _-_, _≤_, _<_}
 use mathlib.Core.Path.{_≡_, refl, sym, ap, _∙_}
-use mathlib.Core.List.{List, [], _∷_}
+use mathlib.Core.List.{List, _∷_}
 use mathlib.Core.Bool.{Bool, true, false, not, _||_}
 use native.Mathlib.Nat.{zero-add}
 use native.Mathlib.Omega.{arith}
@@ -10,12 +10,12 @@ use lib.ListN.{length, getD, drop, set, drop-of-length-le}
 use lib.Seq.{drop-cons}
 use lib.Dec.{eqb}
 use borrow.Author.Tests.{lt-ltb, le-ltb, eq-eqb, ne-eqb}
-use Rattle.octets.specs.Pick.{pick}
 use Rattle.octets.proofs.Choices.{picked, passed}
 use Rattle.stretch.specs.Stretch.{mostKept}
 use Rattle.stretch.specs.declared.Found.the-variants.{Nothing}
 use Rattle.kiss.specs.Stream.{mark, escape}
-use Rattle.kiss.specs.Reader.{Standing, standing, reader, begun, meant, misplaced, taking, after, holds, Outcome, closed, further, scanned}
+use Rattle.kiss.specs.Reader.{Standing, standing, reader, begun, meant, misplaced, taking, after, holds, Outcome, closed, further}
+use Rattle.kiss.specs.Reader.{scanned}
 use Rattle.kiss.specs.declared.Reader.{Reader}
 use Rattle.kiss.proofs.Closing.{closes-18, closes-19, closes-frame}
 
@@ -33,7 +33,8 @@ module _ (a : Reader) (kept : List ℕ) (x : ℕ) where
   unfolding after
   after-plain h n r s t = sym (passed _ _ _ _ h (passed _ _ _ _ (ne-eqb _ _ n) refl)) ∙ rw (r, s, t)
 
-  pub after-begins : a .escaping ≡ false → x ≡ escape → after a kept x ≡ standing (reader (a .marked) true (a .wrong) (a .other) (a .count)) kept
+  pub after-begins : a .escaping ≡ false → x ≡ escape → after a kept x ≡ standing
+      (reader (a .marked) true (a .wrong) (a .other) (a .count)) kept
   unfolding after
   after-begins h e = sym (passed _ _ _ _ h (picked _ _ _ (eq-eqb _ _ e)))
 
@@ -62,7 +63,8 @@ closed-further a kept i =
     go : (b : Bool) → (a .wrong || a .escaping) ≡ b → (c : Bool) → a .other ≡ c → closed a (i + 1) kept ≡ furtherBy i (closed a 1 kept)
     go true h c k = sym (closes-18 a (i + 1) kept h) ∙ ap (furtherBy i) (closes-18 a 1 kept h)
     go false h true k = sym (closes-19 a (i + 1) kept h k) ∙ ap (furtherBy i) (closes-19 a 1 kept h k)
-    go false h false k = sym (closes-frame a (i + 1) kept h k refl (refl, refl)) ∙ ap (furtherBy i) (closes-frame a 1 kept h k refl (refl, refl))
+    go false h false k =
+        sym (closes-frame a (i + 1) kept h k refl (refl, refl)) ∙ ap (furtherBy i) (closes-frame a 1 kept h k refl (refl, refl))
 
 -- a scan of w by a goes on after i octets as one of the rest by b
 pub record Going (a : Standing) (w : List ℕ) (b : Standing) (i : ℕ) : Type 0 where
@@ -70,7 +72,12 @@ pub record Going (a : Standing) (w : List ℕ) (b : Standing) (i : ℕ) : Type 0
   pub same : scanned a w ≡ furtherBy i (scanned b (drop i w))
 
 pub going-first : (a : Standing) (w : List ℕ) → Going a w a 0
-going-first a w = record { inside = omega arith; same = ap (λ (n : ℕ). record { standing = scanned a w .standing; used = n; found = scanned a w .found }) (sym (zero-add _)) }
+going-first a w =
+    record {
+      inside = omega arith;
+      same = ap (λ (n : ℕ). record { standing = scanned a w .standing; used = n; found = scanned a w .found })
+          (sym (zero-add _));
+    }
 
 further-one : (i : ℕ) (r : Outcome) → furtherBy i (further r) ≡ furtherBy (i + 1) r
 further-one i r =

@@ -19,7 +19,8 @@ module _ (kept : List ℕ) (n : ℕ) {check : ℕ} (says : check ≡ frameCheck 
   unfolding sealed
   seals-none e = (
     omega arith,
-    sym (ap (λ (k : List ℕ). set k (suc n) (frameCheck (take n kept) / 256)) (set-out kept n _ (omega arith)) ∙ set-out kept (suc n) _ (omega arith)),
+    sym (ap (λ (k : List ℕ). set k (suc n) (frameCheck (take n kept) / 256)) (set-out kept n _ (omega arith)) ∙ set-out kept (suc n) _
+        (omega arith)),
   )
 
   pub seals-one : n + 1 ≡ length kept → (n + 1 ≡ min (n + 2) (length kept)) × (set kept n (check % 256) ≡ sealed n kept)
@@ -27,7 +28,8 @@ module _ (kept : List ℕ) (n : ℕ) {check : ℕ} (says : check ≡ frameCheck 
   seals-one e =
       (omega arith, rw says (sym (set-out (set kept n (frameCheck (take n kept) % 256)) (suc n) _ (simp length-set (omega arith)))))
 
-  pub seals-both : n + 2 ≤ length kept → (n + 1 + 1 ≡ min (n + 2) (length kept)) × (set (set kept n (check % 256)) (n + 1) (check / 256) ≡ sealed n kept)
+  pub seals-both : n + 2 ≤ length kept → (n + 1 + 1 ≡ min (n + 2) (length kept)) ×
+      (set (set kept n (check % 256)) (n + 1) (check / 256) ≡ sealed n kept)
   unfolding sealed
   seals-both l = (omega arith, rw (says, add-one))
 
@@ -43,7 +45,8 @@ take-room n k vs e = rw (e, take-length) (take-append-seam k vs)
 front-sets : (vs k : List ℕ) (n : ℕ) → n ≤ length k → take (min (n + length vs) (length k)) (sets k n vs) ≡ take (length k) (take n k ++ vs)
 front-sets [] k n h =
     let e : min (n + 0) (length k) ≡ n = omega arith in
-    ap (λ (m : ℕ). take m k) e ∙ sym (ap (take (length k)) (append-nil (take n k)) ∙ take-all (length k) (take n k) (omega (arith, length-take n k)))
+    ap (λ (m : ℕ). take m k) e ∙ sym (ap (take (length k)) (append-nil (take n k)) ∙ take-all (length k) (take n k)
+    (omega (arith, length-take n k)))
 front-sets (v ∷ vs) k n h = go (ltb n (length k)) refl (front-sets vs)
   where
     go : (b : Bool) → ltb n (length k) ≡ b

@@ -9,7 +9,7 @@ use Rattle.octets.specs.Pick.{pick}
 use Rattle.octets.proofs.Choices.{picked, passed}
 use Rattle.stretch.specs.Stretch.{Stretch, clipped, mostKept}
 use Rattle.kiss.specs.Stream.{mark, onto, parted, allButLast, inner, stretchOf, stretchesOf, stretchesIn}
-use Rattle.kiss.specs.Reader.{Standing, standing, begun, holds, closed, toldBy, toFind, FindsStream}
+use Rattle.kiss.specs.Reader.{Standing, standing, holds, closed, toFind, FindsStream}
 use Rattle.kiss.specs.declared.Reader.{Reader}
 use Rattle.kiss.proofs.Behind.{behind, behind-more, length-keeping}
 use Rattle.kiss.proofs.Escapes.{plain}
@@ -36,7 +36,8 @@ unfolding pick
 parted-some [] = ([], [], refl)
 parted-some (x ∷ s) = go (eqb x mark) (parted-some s)
   where
-    go : (t : Bool) → (p : List ℕ) × (ps : List (List ℕ)) × (parted s ≡ p ∷ ps) → (p : List ℕ) × (ps : List (List ℕ)) × (pick t ([] ∷ parted s) (onto x (parted s)) ≡ p ∷ ps)
+    go : (t : Bool) → (p : List ℕ) × (ps : List (List ℕ)) × (parted s ≡ p ∷ ps) → (p : List ℕ) × (ps : List (List ℕ)) ×
+        (pick t ([] ∷ parted s) (onto x (parted s)) ≡ p ∷ ps)
     go true q = ([], parted s, refl)
     go false q = (x ∷ q .0, q .1, ap (onto x) (q .2))
 
@@ -54,7 +55,8 @@ map-append (x ∷ xs) ys = ap (λ (r : List Stretch). clipped x ∷ r) (map-appe
 
 shown-marked : (p s : List ℕ) → shown true (p ∷ parted s) ≡ map clipped (stretchOf p) ++ shown true (parted s)
 shown-marked p s =
-    ap (λ (ps : List (List ℕ)). map clipped (stretchesOf ps)) (front-parted p s) ∙ map-append (stretchOf p) (stretchesOf (allButLast (parted s)))
+    ap (λ (ps : List (List ℕ)). map clipped (stretchesOf ps)) (front-parted p s) ∙ map-append (stretchOf p)
+    (stretchesOf (allButLast (parted s)))
 
 shown-end : (z : Bool) (p : List ℕ) → shown z (ahead p ([] ∷ [])) ≡ []
 shown-end z p = ap (shown z) (ahead-cons p [] []) ∙ go z
@@ -66,9 +68,11 @@ shown-end z p = ap (shown z) (ahead-cons p [] []) ∙ go z
 -- the part that a 0xC0 ends
 shown-mark : (z : Bool) (p s : List ℕ) (x : ℕ) → eqb x mark ≡ true → shown z (ahead p (parted (x ∷ s))) ≡ shown z (p ∷ parted s)
 shown-mark z p s x h =
-    ap (shown z) (ap (ahead p) (sym (picked (eqb x mark) _ _ h)) ∙ ahead-cons p [] (parted s) ∙ ap (λ (q : List ℕ). q ∷ parted s) (append-nil p))
+    ap (shown z) (ap (ahead p) (sym (picked (eqb x mark) _ _ h)) ∙ ahead-cons p [] (parted s) ∙ ap (λ (q : List ℕ). q ∷ parted s)
+    (append-nil p))
 
-shown-more : (z : Bool) (p s : List ℕ) (x : ℕ) → eqb x mark ≡ false → shown z (ahead p (parted (x ∷ s))) ≡ shown z (ahead (p ++ x ∷ []) (parted s))
+shown-more : (z : Bool) (p s : List ℕ) (x : ℕ) → eqb x mark ≡ false → shown z (ahead p (parted (x ∷ s))) ≡ shown z
+    (ahead (p ++ x ∷ []) (parted s))
 shown-more z p s x h = ap (shown z) (ap (ahead p) (sym (passed (eqb x mark) _ _ _ h refl)) ∙ sym (ahead-snoc p x (parted s)))
 
 -- ---- all octets
@@ -83,12 +87,14 @@ module _ (p s : List ℕ) (rec : All s) (x : ℕ) (h : eqb x mark ≡ true) (o :
   at-mark : toFind (behind true p o) (x ∷ s) ≡ shown true (p ∷ parted s)
   at-mark = go (holds (behind true p o .reader)) refl ∙ sym (shown-marked p s)
     where
-      go : (b : Bool) → holds (behind true p o .reader) ≡ b → toFind (behind true p o) (x ∷ s) ≡ map clipped (stretchOf p) ++ shown true (parted s)
+      go : (b : Bool) → holds (behind true p o .reader) ≡ b → toFind (behind true p o) (x ∷ s) ≡ map clipped (stretchOf p) ++ shown true
+          (parted s)
       go true k =
           let c = closed-stops (behind true p o .reader) (behind true p o .kept) in
           to-find-here (behind true p o) x s h k
           ∙ ap₂ (λ (a b : List Stretch). a ++ b) (tells-held p o l k)
-          (ap (λ (a : Reader). toFind (standing a (closed (behind true p o .reader) 1 (behind true p o .kept) .standing .kept)) s) (c .reader)
+          (ap (λ (a : Reader). toFind (standing a (closed (behind true p o .reader) 1 (behind true p o .kept) .standing .kept)) s)
+          (c .reader)
           ∙ rec true [] _ (c .same ∙ length-keeping (plain false p) o l))
       go false k =
           to-find-past (behind true p o) x s h k ∙ rec true [] (behind true p o .kept) (length-keeping (plain false p) o l)

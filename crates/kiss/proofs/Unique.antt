@@ -1,11 +1,11 @@
 -- No second result satisfies a contract of this crate's public functions.
 use Prim.Native.Nat.{ℕ}
-use mathlib.Core.Path.{_≡_, sym, ap, _∙_}
+use mathlib.Core.Path.{sym, ap, _∙_}
 use mathlib.Core.List.{List}
 use denote.Ref.{now}
 use Rattle.octets.specs.Unique.{Fixes}
 use Rattle.octets.proofs.Fixed.{fixed}
-use Rattle.kiss.specs.Reader.{Outcome, outcome}
+use Rattle.kiss.specs.Reader.{Outcome}
 use Rattle.kiss.specs.declared.Scanned.{Scanned}
 use Rattle.kiss.proofs.Reader.new.Kinds as knew
 use Rattle.kiss.proofs.Reader.new.Reads as rnew

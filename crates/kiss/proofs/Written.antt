@@ -1,15 +1,15 @@
 -- Escapes are undone.
 use Prim.Native.Nat.{ℕ}
-use mathlib.Core.Path.{_≡_, refl, sym, ap, ap₂, _∙_}
-use mathlib.Core.Bool.{Bool, true, false, false≢true}
+use mathlib.Core.Path.{_≡_, refl, sym, ap, _∙_}
+use mathlib.Core.Bool.{Bool, true, false}
 use mathlib.Core.List.{List, [], _∷_, _++_}
 use mathlib.Core.Option.{Option, none, some, Option·some-injective}
 use native.Mathlib.Omega.{arith}
 use lib.Dec.{eqb}
-use borrow.Author.Tests.{eqb-true, eqb-false, eq-eqb, ne-eqb}
+use borrow.Author.Tests.{eqb-true, eqb-false, ne-eqb}
 use Rattle.octets.specs.Pick.{pick}
 use Rattle.kiss.specs.Stream.{mark, escape, forMark, forEscape, onto, parted, withFirst, unescaped, escapedOctet, escaped}
-use Rattle.kiss.specs.Statements.{NoMark, Escapes, EscapesUndone}
+use Rattle.kiss.specs.Statements.{NoMark, EscapesUndone}
 
 -- an octet is 0xC0, or 0xDB, or stands for itself
 pub three : (P : ℕ → Type 0) → P mark → P escape → ((x : ℕ) → (x ≡ mark → ⊥) → (x ≡ escape → ⊥) → P x) → (x : ℕ) → P x
@@ -46,7 +46,8 @@ inside : (s : List ℕ) → NoMark (escaped s)
 unfolding pick
 inside [] = tt
 inside (x ∷ s) =
-    three (λ (y : ℕ). NoMark (escapedOctet y ++ escaped s)) ((λ h. omega arith), ((λ h. omega arith), inside s)) ((λ h. omega arith), ((λ h. omega arith), inside s))
+    three (λ (y : ℕ). NoMark (escapedOctet y ++ escaped s)) ((λ h. omega arith), ((λ h. omega arith), inside s))
+    ((λ h. omega arith), ((λ h. omega arith), inside s))
     (λ y m e. rw (itself m e) (m, inside s)) x
 
 pub parted-none : (p r : List ℕ) → NoMark p → parted (p ++ mark ∷ r) ≡ p ∷ parted r
@@ -67,7 +68,8 @@ first-of : (x : ℕ) (o : Option (List ℕ)) (s : List ℕ) → withFirst x o �
 first-of x none s e = none-some s e
 first-of x (some q) s e = record { rest = q; whole = sym (Option·some-injective (x ∷ q) s e); from = refl }
 
-escaped-two : (x y z : ℕ) (s q p : List ℕ) → eqb x escape ≡ true → s ≡ z ∷ q → escapedOctet z ≡ escape ∷ y ∷ [] → escaped q ≡ p → escaped s ≡ x ∷ y ∷ p
+escaped-two : (x y z : ℕ) (s q p : List ℕ) → eqb x escape ≡ true → s ≡ z ∷ q → escapedOctet z ≡ escape ∷ y ∷ [] → escaped q ≡ p
+    → escaped s ≡ x ∷ y ∷ p
 escaped-two x y z s q p h w o e = rw (w, o, e) (ap (λ (n : ℕ). n ∷ y ∷ p) (sym (eqb-true x escape h)))
 
 escaped-one : (x : ℕ) (s q p : List ℕ) → (x ≡ mark → ⊥) → eqb x escape ≡ false → s ≡ x ∷ q → escaped q ≡ p → escaped s ≡ x ∷ p
@@ -84,7 +86,8 @@ only (x ∷ []) s h e = go (eqb x escape) refl e
 only (x ∷ y ∷ p) s h e = go (eqb x escape) refl (eqb y forMark) refl (eqb y forEscape) refl e (only p) (only (y ∷ p))
   where
     go : (t : Bool) → eqb x escape ≡ t → (u : Bool) → eqb y forMark ≡ u → (v : Bool) → eqb y forEscape ≡ v
-        → pick t (pick u (withFirst mark (unescaped p)) (pick v (withFirst escape (unescaped p)) none)) (withFirst x (unescaped (y ∷ p))) ≡ some s
+        → pick t (pick u (withFirst mark (unescaped p)) (pick v (withFirst escape (unescaped p)) none))
+        (withFirst x (unescaped (y ∷ p))) ≡ some s
         → ((s : List ℕ) → NoMark p → unescaped p ≡ some s → escaped s ≡ p)
         → ((s : List ℕ) → NoMark (y ∷ p) → unescaped (y ∷ p) ≡ some s → escaped s ≡ y ∷ p)
         → escaped s ≡ x ∷ y ∷ p

@@ -71,6 +71,10 @@ frameLength count = min (count - 1) mostKept
 unfoldable pub sealed : ℕ → List ℕ → List ℕ
 sealed n kept = sets kept n (octetsOf lowFirst (frameCheck (take n kept)))
 
+-- What a scan answers by which the reader stands so.
+abbrev pub scannedBy : Reader → ℕ → Found → Scanned
+scannedBy a used f = record { reader = a; used = used; found = f }
+
 -- What a scan tells, how many octets of the window are used with it, and how the reader stands then.
 pub record Outcome : Type 0 where
   pub standing : Standing
@@ -111,7 +115,8 @@ unfoldable pub toFind : Standing → List ℕ → List Stretch
 toFind a [] = []
 toFind a (x ∷ w) =
     pick (eqb x mark)
-    (pick (holds (a .reader)) (toldBy (closed (a .reader) 1 (a .kept)) ++ toFind (closed (a .reader) 1 (a .kept) .standing) w) (toFind (standing (begun true) (a .kept)) w))
+    (pick (holds (a .reader)) (toldBy (closed (a .reader) 1 (a .kept)) ++ toFind (closed (a .reader) 1 (a .kept) .standing) w)
+    (toFind (standing (begun true) (a .kept)) w))
     (toFind (after (a .reader) (a .kept) x) w)
 
 -- ---- statements

@@ -4,7 +4,7 @@ use mathlib.Core.Path.{_≡_}
 use mathlib.Core.List.{List, [], _∷_, _++_, map}
 use mathlib.Core.Option.{some}
 use mathlib.Core.Bool.{false}
-use lib.ListN.{length, take, drop}
+use lib.ListN.{length, drop}
 use Rattle.bits.specs.Rows.{ones}
 use Rattle.bits.specs.Rows.Order.{lowFirst}
 use Rattle.crc.specs.Check.{checkWrong}

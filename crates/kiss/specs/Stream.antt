@@ -63,7 +63,7 @@ unescaped (x ∷ y ∷ s) =
     (pick (eqb y forMark) (withFirst mark (unescaped s)) (pick (eqb y forEscape) (withFirst escape (unescaped s)) none))
     (withFirst x (unescaped (y ∷ s)))
 
--- Behind the type octet stands a frame without its check, which is appended. Nothing is nothing; 18 comes first, then 19.
+-- Behind the type octet stands a frame without its check, which is appended. Two adjacent marks give no stretch; 18 comes first, then 19.
 abbrev pub typed : Option (List ℕ) → List Stretch
 typed none = unread no.escape ∷ []
 typed (some []) = []

@@ -2,7 +2,8 @@
 ghost use mathlib.Core.Path.{_≡_};
 ghost use Prim.Native.Nat.{_+_, _≤_, min};
 ghost use lib.ListN.{length};
-ghost use Rattle.kiss.specs.Reader.{standing, fresh, meant, misplaced, frameLength, sealed, outcome, closed, scanned};
+ghost use Rattle.kiss.specs.Reader.{standing, reader, fresh, meant, misplaced, frameLength, sealed, scannedBy, outcome, closed};
+ghost use Rattle.kiss.specs.Reader.{scanned};
 use stretch::Found;
 use stretch::KEPT;
 
@@ -88,6 +89,19 @@ fn seal(kept: &mut [u8], n: usize) -> usize
 }
 
 impl Reader {
+    // A reader that stands so.
+    fn at(marked: bool, escaping: bool, wrong: bool, other: bool, count: usize) -> Reader
+        ensures { λ r. ⌜ r ≡ reader marked escaping wrong other count ⌝ }
+    {
+        Reader {
+            marked,
+            escaping,
+            wrong,
+            other,
+            count,
+        }
+    }
+
     // A reader at the start of a stream.
     pub fn new() -> Reader
         ensures { λ r. ⌜ r ≡ fresh ⌝ }
@@ -101,37 +115,30 @@ impl Reader {
         }
     }
 
+    // What a scan answers that used so many octets of the window and found this.
+    fn tells(self, used: usize, found: Found) -> Scanned
+        ensures { λ r. ⌜ r ≡ scannedBy self used found ⌝ }
+    {
+        Scanned {
+            reader: self,
+            used,
+            found,
+        }
+    }
+
     // Behind a MARK before which something stands: 18, then 19, else the frame with its check.
     fn close(self, used: usize, kept: &mut [u8; KEPT]) -> Scanned
         ensures { λ r. ⌜ outcome r (now (kept .exit)) ≡ closed self used (now (kept .entry)) ⌝ }
     {
-        let reader = Reader {
-            marked: true,
-            escaping: false,
-            wrong: false,
-            other: false,
-            count: 0,
-        };
+        let reader = Reader::at(true, false, false, false, 0);
         if self.wrong | self.escaping {
-            return Scanned {
-                reader,
-                used,
-                found: Found::Refused(answer::ESCAPE),
-            };
+            return reader.tells(used, Found::Refused(answer::ESCAPE));
         }
         if self.other {
-            return Scanned {
-                reader,
-                used,
-                found: Found::Refused(answer::TYPE_OCTET),
-            };
+            return reader.tells(used, Found::Refused(answer::TYPE_OCTET));
         }
         let n = seal(kept, frame_length(self.count));
-        Scanned {
-            reader,
-            used,
-            found: Found::Frame(n),
-        }
+        reader.tells(used, Found::Frame(n))
     }
 
     // Goes over the window up to the MARK at which something is told, or up to its end. kept are the octets of the frame begun; a frame
@@ -150,14 +157,7 @@ impl Reader {
             i += 1;
             if x == MARK {
                 if marked & (wrong | escaping | (count != 0)) {
-                    let reader = Reader {
-                        marked,
-                        escaping,
-                        wrong,
-                        other,
-                        count,
-                    };
-                    return reader.close(i, kept);
+                    return Reader::at(marked, escaping, wrong, other, count).close(i, kept);
                 }
                 marked = true;
                 escaping = false;
@@ -184,17 +184,6 @@ impl Reader {
                 count += 1;
             }
         }
-        let reader = Reader {
-            marked,
-            escaping,
-            wrong,
-            other,
-            count,
-        };
-        Scanned {
-            reader,
-            used: i,
-            found: Found::Nothing,
-        }
+        Reader::at(marked, escaping, wrong, other, count).tells(i, Found::Nothing)
     }
 }

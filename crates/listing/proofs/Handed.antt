@@ -3,7 +3,7 @@ use Prim.Native.Nat.{ℕ, _≤_}
 use mathlib.Core.Path.{_≡_, refl, sym, ap, _∙_}
 use mathlib.Core.List.{List, [], _∷_, _++_, map, append-assoc}
 use native.Mathlib.Omega.{arith}
-use lib.ListN.{length, take, drop, length-append, length-map}
+use lib.ListN.{length, take, drop, length-append, length-drop, length-map}
 use lib.Seq.{take-at, drop-at}
 use Rattle.octets.specs.Parts.{written}
 use Rattle.answer.specs.Told.{Told}
@@ -29,7 +29,8 @@ abbrev numbered : ℕ → ℕ → List ℕ → Handed
 numbered first a p = record { first = first; arrival = a; packet = p }
 
 -- packets that stand end to end, cut by their lengths
-cut-joined : (a : ℕ) (ps : List Handed) (rest xs : List ℕ) → Under a ps → cut a (joined (bare ps) ++ rest) (map length (bare ps)) (firsts ps ++ xs) ≡ ps
+cut-joined : (a : ℕ) (ps : List Handed) (rest xs : List ℕ) → Under a ps → cut a (joined (bare ps) ++ rest) (map length (bare ps))
+    (firsts ps ++ xs) ≡ ps
 cut-joined a [] rest xs u = refl
 cut-joined a (p ∷ ps) rest xs u =
     let s : List ℕ = joined (bare ps) ++ rest in
@@ -43,8 +44,10 @@ cut-joined a (p ∷ ps) rest xs u =
     ∙ ap (λ (qs : List Handed). p ∷ qs) (cut-joined a ps rest xs (u .1)))
 
 -- What a step left, or turning a stretch away, in the lent octets, lengths and first numbers, of which there were 501, 16 and 16.
-module _ (s : Session) (x : Stretch) {octets lengths numbers octets′ lengths′ numbers′ : List ℕ} {r : Stepped} (o501 : length octets ≡ 501) (o16 : length lengths ≡ 16)
-    (n16 : length numbers ≡ 16) (g : Gives (offered s x (lent octets lengths numbers)) r (lent octets lengths numbers) (lent octets′ lengths′ numbers′)) where
+module _ (s : Session) (x : Stretch) {octets lengths numbers octets′ lengths′ numbers′ : List ℕ} {r : Stepped} (o501 : length octets ≡ 501)
+    (o16 : length lengths ≡ 16)
+    (n16 : length numbers ≡ 16) (g : Gives (offered s x (lent octets lengths numbers)) r (lent octets lengths numbers)
+    (lent octets′ lengths′ numbers′)) where
   abbrev o : Outcome
   o = made s x
 
@@ -56,7 +59,8 @@ module _ (s : Session) (x : Stretch) {octets lengths numbers octets′ lengths�
 
   same : offered s x (lent octets lengths numbers) ≡ o
   same =
-      same-outcome s x (lent octets lengths numbers) (record { octets = omega (arith, o501); lengths = omega (arith, o16); firsts = omega (arith, n16) })
+      same-outcome s x (lent octets lengths numbers)
+      (record { octets = omega (arith, o501); lengths = omega (arith, o16); firsts = omega (arith, n16) })
 
   answers : told (r .answer) ≡ o .answer
   answers = g .answers ∙ ap (λ (x : Outcome). x .answer) same
@@ -73,13 +77,31 @@ module _ (s : Session) (x : Stretch) {octets lengths numbers octets′ lengths�
   numbers-are : numbers′ ≡ written (firsts (o .packets)) numbers
   numbers-are = ap (λ (l : Lent). l .firsts) (g .leaves) ∙ ap (λ (x : Outcome). written (firsts (x .packets)) numbers) same
 
+  -- as long as before
+  still-long : (xs l : List ℕ) → length xs ≤ length l → length (written xs l) ≡ length l
+  still-long xs l h = simp (length-append, length-drop) (omega arith)
+
+  pub octets-long : length octets′ ≡ 501
+  octets-long = ap length octets-are ∙ still-long (joined ps) octets (omega (arith, o501, few .octets)) ∙ o501
+
+  pub lengths-long : length lengths′ ≡ 16
+  lengths-long =
+      let h : length (map length ps) ≤ length lengths = simp length-map (omega (arith, o16, simp length-map at (few .packets))) in
+      ap length lengths-are ∙ still-long (map length ps) lengths h ∙ o16
+
+  pub numbers-long : length numbers′ ≡ 16
+  numbers-long =
+      let h : length (firsts (o .packets)) ≤ length numbers = simp length-map (omega (arith, n16, simp length-map at (few .packets))) in
+      ap length numbers-are ∙ still-long (firsts (o .packets)) numbers h ∙ n16
+
   packets-are : told (r .answer) .fields .packets ≡ length (o .packets)
   packets-are = ap (λ (t : Told Accepted). t .fields .packets) answers ∙ few .count
 
   front : take (told (r .answer) .fields .packets) lengths′ ≡ map length ps
   front =
       ap (λ (l : List ℕ). take (told (r .answer) .fields .packets) l) lengths-are
-      ∙ take-at (map length ps) (drop (length (map length ps)) lengths) (told (r .answer) .fields .packets) (simp length-map (sym packets-are))
+      ∙ take-at (map length ps) (drop (length (map length ps)) lengths) (told (r .answer) .fields .packets)
+      (simp length-map (sym packets-are))
 
   pub few-packets : told (r .answer) .fields .packets ≤ 16
   few-packets = omega (arith, packets-are, simp length-map at (few .packets))

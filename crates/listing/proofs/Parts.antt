@@ -1,11 +1,11 @@
 -- The text that a section brings, and the text that is still to come behind it.
-use Prim.Native.Nat.{ℕ, _-_}
+use Prim.Native.Nat.{ℕ}
 use mathlib.Core.Path.{_≡_, refl, sym, ap, _∙_, subst}
 use mathlib.Core.List.{List, [], _++_, append-nil, append-assoc}
 use mathlib.Core.Bool.{Bool, true, false}
-use lib.ListN.{take, drop}
+use lib.ListN.{drop}
 use Rattle.octets.specs.Pick.{pick}
-use Rattle.stretch.specs.Stretch.{Stretch, found, unread}
+use Rattle.stretch.specs.Stretch.{Stretch}
 use Rattle.source.specs.Found.{opens, offers, Found, nothing, one, joined, foundIn}
 use Rattle.source.specs.Scan.{tells, Told, Finds}
 use Rattle.source.specs.declared.Source.{Source}
@@ -52,7 +52,8 @@ module _ (a : Source) (s : Session) (kept w : List ℕ) {r : Scanned} {kept′ :
   known e = subst (Told a kept w r kept′) e (f .told)
 
   -- by what is found
-  by-taken : {t : Taken} (p : List ℕ) (ended : Bool) → r .taken ≡ t → toCome (receiver a s) kept (w ++ p) ended ≡ listed s (joined (tells t kept′ w) (rest p)) ended
+  by-taken : {t : Taken} (p : List ℕ) (ended : Bool) → r .taken ≡ t → toCome (receiver a s) kept (w ++ p) ended ≡ listed s
+      (joined (tells t kept′ w) (rest p)) ended
   by-taken p ended e = ap (λ (x : Found). listed s x ended) (f .next p ∙ ap (λ (t : Taken). joined (tells t kept′ w) (rest p)) e)
 
   pub brings-header : {t : ℕ} → r .taken ≡ taken.Opened t → Brings a s kept w header (r .source) (opening t 0 .session) kept′ (r .used)

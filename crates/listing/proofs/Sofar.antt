@@ -8,12 +8,12 @@ use lib.ListN.{length, take, drop, length-append, length-drop}
 use lib.Seq.{drop-drop, take-all}
 use borrow.Author.Tests.{lt-ltb, le-ltb}
 use Rattle.octets.specs.Pick.{pick}
-use Rattle.octets.specs.Parts.{part, written}
-use Rattle.octets.proofs.Placing.{part-some, put-fits, after}
+use Rattle.octets.specs.Parts.{written}
+use Rattle.octets.proofs.Placing.{put-fits, after}
 use Rattle.decimal.specs.Laid.{Laid, Puts}
 use Rattle.decimal.proofs.Laid.{no-number, laid-puts}
-use Rattle.stretch.specs.Stretch.{Stretch, found, unread}
-use Rattle.source.specs.Scan.{scanned, keptBy, Scans, Finds}
+use Rattle.stretch.specs.Stretch.{Stretch}
+use Rattle.source.specs.Scan.{keptBy, Scans, Finds}
 use Rattle.source.specs.declared.Source.{Source}
 use Rattle.source.specs.declared.Taken.{Taken}
 use Rattle.source.specs.declared.Taken.the-variants as taken
@@ -21,11 +21,13 @@ use Rattle.source.specs.declared.Scanned.{Scanned}
 use Rattle.source.proofs.Scanning.{scans-find}
 use Rattle.session.specs.Open.{opening}
 use Rattle.session.specs.declared.Session.{Session}
+use Rattle.receiver.specs.Receive.{stretchOf}
 use Rattle.receiver.specs.declared.Receiver.{Receiver}
+use Rattle.receiver.proofs.Offering.{Offered, offer-used, by-offer}
 use Rattle.listing_lines.specs.Text.{longestLine, header, badRecording}
 use Rattle.listing.specs.Listing.{made, outcomeText}
 use Rattle.listing.specs.Contracts.{room}
-use Rattle.listing.specs.Next.{Next, receiver, here, behind, bySection, sections, nextOf, stopped, listedOf, Nexts}
+use Rattle.listing.specs.Next.{Next, receiver, here, behind, offering, bySection, sections, nextOf, stopped, listedOf, Nexts}
 use Rattle.listing.specs.declared.Listed.{Listed}
 use Rattle.listing.specs.declared.Stop.{Stop}
 use Rattle.listing.specs.declared.Stop.the-variants.{Missing, Full, Over}
@@ -35,7 +37,8 @@ use Rattle.listing.proofs.Parts.{known}
 pub record Sofar (a₀ : Source) (s₀ : Session) (kept₀ window out₀ kept out : List ℕ) (a : Source) (s : Session) (at size : ℕ) : Type 0 where
   pub text : List ℕ
   pub to-come : ℕ
-  pub rest : nextOf (receiver a₀ s₀) kept₀ window (length out₀) ≡ behind at text (sections to-come (receiver a s) kept (drop at window) (length out₀ - size))
+  pub rest : nextOf (receiver a₀ s₀) kept₀ window (length out₀) ≡ behind at text
+      (sections to-come (receiver a s) kept (drop at window) (length out₀ - size))
   pub enough : length window - at < to-come
   pub inside : at ≤ length window
   pub long : size ≡ length text
@@ -70,7 +73,8 @@ behind-behind u v x y n =
     ∙ ap (next n (u + v + n .used)) (sym (append-assoc x y (n .text)))
 
 -- a text laid behind the text that there is
-written-more : (text out₀ : List ℕ) {most size r : ℕ} {more out out′ : List ℕ} → out ≡ written text out₀ → size ≡ length text → size + most ≤ length out → length out ≡ length out₀
+written-more : (text out₀ : List ℕ) {most size r : ℕ} {more out out′ : List ℕ} → out ≡ written text out₀ → size ≡ length text
+    → size + most ≤ length out → length out ≡ length out₀
     → Laid most more out size out′ r → out′ ≡ written (text ++ more) out₀
 written-more text out₀ {size = size} {more = more} {out} e long fits same l =
     let few : size + length more ≤ length out = omega (arith, l .behind, l .near) in
@@ -81,11 +85,13 @@ at-hand : (window : List ℕ) (at : ℕ) → take (length window - at) (drop at 
 at-hand window at = take-all (length window - at) (drop at window) (simp length-drop (omega arith))
 
 -- what is scanned there
-scans : {a : Source} {kept kept′ : List ℕ} (window : List ℕ) (at : ℕ) {r : Scanned} → Scans a kept (take (length window - at) (drop at window)) r kept′ → Scans a kept (drop at window) r kept′
+scans : {a : Source} {kept kept′ : List ℕ} (window : List ℕ) (at : ℕ) {r : Scanned} → Scans a kept
+    (take (length window - at) (drop at window)) r kept′ → Scans a kept (drop at window) r kept′
 scans {a} {kept} {kept′} window at {r} e = subst (λ (w : List ℕ). Scans a kept w r kept′) (at-hand window at) e
 
 -- A section, where there is room.
-with-room : (k : ℕ) (a : Source) (s : Session) (kept w : List ℕ) (left : ℕ) {r : Scanned} {kept′ : List ℕ} {t : Taken} → room ≤ left → Scans a kept w r kept′ → r .taken ≡ t
+with-room : (k : ℕ) (a : Source) (s : Session) (kept w : List ℕ) (left : ℕ) {r : Scanned} {kept′ : List ℕ} {t : Taken} → room ≤ left
+    → Scans a kept w r kept′ → r .taken ≡ t
     → sections (suc k) (receiver a s) kept w left ≡ bySection (sections k) s kept′ w left (r .source) (r .used) t
 unfolding sections pick
 with-room k a s kept w left {r} {kept′} has e d =
@@ -101,8 +107,10 @@ without-room zero a kept w left h = refl
 without-room (suc k) a kept w left h = simp (lt-ltb _ _ h)
 
 -- stops there
-finish : {a₀ a : Source} {s₀ s : Session} {kept₀ kept window out₀ out : List ℕ} (text : List ℕ) {at size : ℕ} {why : Stop} {q : Listed} → q ≡ stopped a s at size why
-    → nextOf (receiver a₀ s₀) kept₀ window (length out₀) ≡ behind at text (here (receiver a s) kept why) → size ≡ length text → out ≡ written text out₀
+finish : {a₀ a : Source} {s₀ s : Session} {kept₀ kept window out₀ out : List ℕ} (text : List ℕ) {at size : ℕ} {why : Stop} {q : Listed}
+    → q ≡ stopped a s at size why
+    → nextOf (receiver a₀ s₀) kept₀ window (length out₀) ≡ behind at text (here (receiver a s) kept why) → size ≡ length text
+    → out ≡ written text out₀
     → Nexts (receiver a₀ s₀) kept₀ window out₀ q kept out
 finish {a = a} {s = s} {out₀ = out₀} text {at = at} {size = size} {why = why} g e long leaves = record {
   answers = g
@@ -114,7 +122,8 @@ finish {a = a} {s = s} {out₀ = out₀} text {at = at} {size = size} {why = why
 }
 
 -- A turn over the window: what was listed so far, and what the source made of the rest.
-module _ {a₀ : Source} {s₀ : Session} {kept₀ window out₀ kept out : List ℕ} {a : Source} {s : Session} {at size : ℕ} (so : Sofar a₀ s₀ kept₀ window out₀ kept out a s at size)
+module _ {a₀ : Source} {s₀ : Session} {kept₀ window out₀ kept out : List ℕ} {a : Source} {s : Session} {at size : ℕ}
+    (so : Sofar a₀ s₀ kept₀ window out₀ kept out a s at size)
     {r : Scanned} {kept′ : List ℕ} (e : Scans a kept (take (length window - at) (drop at window)) r kept′) where
   abbrev f : Finds a kept (drop at window) r kept′
   f = scans-find .finds (scans window at e)
@@ -134,23 +143,11 @@ module _ {a₀ : Source} {s₀ : Session} {kept₀ window out₀ kept out : List
   pub less-nothing : r .taken ≡ taken.Nothing → Less
   less-nothing d = some-left (known a s kept (drop at window) f d)
 
-  pub less-frame : {from to : ℕ} → r .taken ≡ taken.Here from to → Less
-  less-frame d = some-left (known a s kept (drop at window) f d .0)
-
-  pub less-kept : {n : ℕ} → r .taken ≡ taken.Kept n → Less
-  less-kept d = some-left (known a s kept (drop at window) f d .0)
-
-  pub less-refused : {n : ℕ} → r .taken ≡ taken.Refused n → Less
-  less-refused d = some-left (known a s kept (drop at window) f d)
+  pub less-offered : Offered (r .taken) → Less
+  less-offered k = some-left (offer-used f k)
 
   pub small-t : {t : ℕ} → r .taken ≡ taken.Opened t → t ≤ 8
   small-t d = known a s kept (drop at window) f d .1
-
-  pub frame-from : {from to : ℕ} → r .taken ≡ taken.Here from to → at + from ≤ at + to
-  frame-from d = omega (arith, known a s kept (drop at window) f d .1)
-
-  pub frame-to : {from to : ℕ} → r .taken ≡ taken.Here from to → at + to ≤ length window
-  frame-to d = omega (arith, known a s kept (drop at window) f d .2, length-drop at window, so .inside)
 
   module _ (has : room ≤ length out - size) where
     pub fits : size + room ≤ length out
@@ -158,7 +155,8 @@ module _ {a₀ : Source} {s₀ : Session} {kept₀ window out₀ kept out : List
 
     -- what comes of the section
     seen : {t : Taken} → r .taken ≡ t → nextOf (receiver a₀ s₀) kept₀ window (length out₀)
-        ≡ behind at (so .text) (bySection (sections (so .to-come - 1)) s kept′ (drop at window) (length out₀ - size) (r .source) (r .used) t)
+        ≡ behind at (so .text) (bySection (sections (so .to-come - 1)) s kept′ (drop at window) (length out₀ - size) (r .source)
+        (r .used) t)
     seen d =
         let k : so .to-come ≡ suc (so .to-come - 1) = omega (arith, so .enough) in
         let left : room ≤ length out₀ - size = omega (arith, so .same) in
@@ -169,8 +167,11 @@ module _ {a₀ : Source} {s₀ : Session} {kept₀ window out₀ kept out : List
     -- one section further
     onward : {most r′ : ℕ} {more out′ : List ℕ} {z : Session} → 0 < r .used → most ≤ room
         → nextOf (receiver a₀ s₀) kept₀ window (length out₀)
-        ≡ behind at (so .text) (behind (r .used) more (sections (so .to-come - 1) (receiver (r .source) z) kept′ (drop (r .used) (drop at window)) (length out₀ - size - length more)))
-        → Laid most more out size out′ r′ → length out′ ≡ length out → Sofar a₀ s₀ kept₀ window out₀ kept′ out′ (r .source) z (at + r .used) r′
+        ≡ behind at (so .text) (behind (r .used) more
+        (sections (so .to-come - 1) (receiver (r .source) z) kept′ (drop (r .used) (drop at window))
+        (length out₀ - size - length more)))
+        → Laid most more out size out′ r′ → length out′ ≡ length out → Sofar a₀ s₀ kept₀ window out₀ kept′ out′ (r .source) z
+        (at + r .used) r′
     onward {r′ = r′} {more} {z = z} g small h l still =
         let room-left : length out₀ - size - length more ≡ length out₀ - r′ = omega (arith, l .behind) in
         record {
@@ -178,8 +179,11 @@ module _ {a₀ : Source} {s₀ : Session} {kept₀ window out₀ kept out : List
           to-come = so .to-come - 1;
           rest = h
               ∙ behind-behind at (r .used) (so .text) more _
-              ∙ ap (λ (w : List ℕ). behind (at + r .used) (so .text ++ more) (sections (so .to-come - 1) (receiver (r .source) z) kept′ w (length out₀ - size - length more))) (drop-drop (r .used) at window)
-              ∙ ap (λ (n : ℕ). behind (at + r .used) (so .text ++ more) (sections (so .to-come - 1) (receiver (r .source) z) kept′ (drop (at + r .used) window) n)) room-left;
+              ∙ ap (λ (w : List ℕ). behind (at + r .used) (so .text ++ more)
+              (sections (so .to-come - 1) (receiver (r .source) z) kept′ w (length out₀ - size - length more)))
+              (drop-drop (r .used) at window)
+              ∙ ap (λ (n : ℕ). behind (at + r .used) (so .text ++ more)
+              (sections (so .to-come - 1) (receiver (r .source) z) kept′ (drop (at + r .used) window) n)) room-left;
           enough = omega (arith, so .enough, some-left g);
           inside = turn-inside;
           long = simp length-append (omega (arith, l .behind, so .long));
@@ -188,70 +192,79 @@ module _ {a₀ : Source} {s₀ : Session} {kept₀ window out₀ kept out : List
           leaves = written-more (so .text) out₀ (so .leaves) (so .long) (omega (arith, fits)) (so .same) l;
         }
 
-    pub on-header : {t r′ : ℕ} {out′ : List ℕ} {z : Session} → r .taken ≡ taken.Opened t → Puts longestLine header out size out′ r′ → length out′ ≡ length out
+    pub on-header : {t r′ : ℕ} {out′ : List ℕ} {z : Session} → r .taken ≡ taken.Opened t → Puts longestLine header out size out′ r′
+        → length out′ ≡ length out
         → z ≡ opening t 0 .session → Sofar a₀ s₀ kept₀ window out₀ kept′ out′ (r .source) z (at + r .used) r′
     on-header {r′ = r′} {out′} d p still same =
         subst (λ (x : Session). Sofar a₀ s₀ kept₀ window out₀ kept′ out′ (r .source) x (at + r .used) r′) (sym same)
-        (onward {most = longestLine} (known a s kept (drop at window) f d .0) (omega arith) (seen d) (laid-puts (omega (arith, fits)) (omega arith) p) still)
+        (onward {most = longestLine} (known a s kept (drop at window) f d .0) (omega arith) (seen d)
+        (laid-puts (omega (arith, fits)) (omega arith) p) still)
 
     pub on-nothing : r .taken ≡ taken.Nothing → Sofar a₀ s₀ kept₀ window out₀ kept′ out (r .source) s (at + r .used) size
     on-nothing d = onward {most = 0} (known a s kept (drop at window) f d) (omega arith) (seen d) (no-number out size) refl
 
-    -- what is offered
-    on-offer : (x : Stretch) {r′ : ℕ} {text out′ : List ℕ} {z : Session} → 0 < r .used
-        → nextOf (receiver a₀ s₀) kept₀ window (length out₀)
-        ≡ behind at (so .text) (behind (r .used) (outcomeText (made s x)) (sections (so .to-come - 1) (receiver (r .source) (made s x .session)) kept′ (drop (r .used) (drop at window)) (length out₀ - size - length (outcomeText (made s x)))))
-        → Laid room text out size out′ r′ → length out′ ≡ length out → text ≡ outcomeText (made s x) → z ≡ made s x .session
+    -- what is offered of it
+    abbrev pub stretch : Stretch
+    stretch = stretchOf kept′ (take (length window - at) (drop at window)) (r .taken)
+
+    seen-offered : Offered (r .taken) → nextOf (receiver a₀ s₀) kept₀ window (length out₀)
+        ≡ behind at (so .text)
+        (offering (sections (so .to-come - 1)) s kept′ (drop at window) (length out₀ - size) (r .source) (r .used) stretch)
+    seen-offered k =
+        let rest = sections (so .to-come - 1) in
+        let left = length out₀ - size in
+        let G : Stretch → Next = offering rest s kept′ (drop at window) left (r .source) (r .used) in
+        seen refl
+        ∙ ap (behind at (so .text))
+        (by-offer f k (bySection rest s kept′ (drop at window) left (r .source) (r .used)) G
+        (λ from to. refl) (λ n. refl) (λ n. refl)
+        ∙ ap (λ (w : List ℕ). G (stretchOf kept′ w (r .taken))) (sym (at-hand window at)))
+
+    pub on-offered : Offered (r .taken) → {r′ : ℕ} {text out′ : List ℕ} {z : Session} → Laid room text out size out′ r′
+        → length out′ ≡ length out → text ≡ outcomeText (made s stretch) → z ≡ made s stretch .session
         → Sofar a₀ s₀ kept₀ window out₀ kept′ out′ (r .source) z (at + r .used) r′
-    on-offer x {r′} {text} {out′} u h l still said same =
+    on-offered k {r′} {text} {out′} l still said same =
         subst (λ (y : Session). Sofar a₀ s₀ kept₀ window out₀ kept′ out′ (r .source) y (at + r .used) r′) (sym same)
-        (onward {most = room} u (omega arith) h (subst (λ (y : List ℕ). Laid room y out size out′ r′) said l) still)
+        (onward {most = room} (offer-used f k) (omega arith) (seen-offered k)
+        (subst (λ (y : List ℕ). Laid room y out size out′ r′) said l) still)
 
-    -- the frame's octets in the window, and among the octets kept
-    frame-octets : (from to : ℕ) → take (at + to - (at + from)) (drop (at + from) window) ≡ take (to - from) (drop from (drop at window))
-    frame-octets from to =
-        let n : at + to - (at + from) ≡ to - from = omega arith in
-        ap (λ (k : ℕ). take k (drop (at + from) window)) n ∙ ap (take (to - from)) (sym (drop-drop from at window))
-
-    pub kept-octets : {n : ℕ} {x : List ℕ} → r .taken ≡ taken.Kept n → x ≡ part kept′ 0 n → x ≡ take n kept′
-    kept-octets {n} d h =
-        let there : n ≤ length kept′ = known a s kept (drop at window) f d .1 in
-        h ∙ sym (part-some kept′ 0 n (omega arith))
-
-    module _ {r′ : ℕ} {text out′ : List ℕ} (l : Laid room text out size out′ r′) (still : length out′ ≡ length out) where
-      abbrev Then : Session → Type 0
-      Then z = Sofar a₀ s₀ kept₀ window out₀ kept′ out′ (r .source) z (at + r .used) r′
-
-      pub on-frame : {from to : ℕ} {z : Session} → r .taken ≡ taken.Here from to → text ≡ outcomeText (made s (found (take (at + to - (at + from)) (drop (at + from) window))))
-          → z ≡ made s (found (take (at + to - (at + from)) (drop (at + from) window))) .session → Then z
-      on-frame {from} {to} d said same =
-          let q : take (at + to - (at + from)) (drop (at + from) window) ≡ take (to - from) (drop from (drop at window)) = frame-octets from to in
-          on-offer (found (take (to - from) (drop from (drop at window)))) (known a s kept (drop at window) f d .0) (seen d) l still
-          (said ∙ ap (λ (x : List ℕ). outcomeText (made s (found x))) q) (same ∙ ap (λ (x : List ℕ). made s (found x) .session) q)
-
-      pub on-kept : {n : ℕ} {x : List ℕ} {z : Session} → r .taken ≡ taken.Kept n → x ≡ part kept′ 0 n → text ≡ outcomeText (made s (found x)) → z ≡ made s (found x) .session → Then z
-      on-kept {n} d h said same =
-          on-offer (found (take n kept′)) (known a s kept (drop at window) f d .0) (seen d) l still
-          (said ∙ ap (λ (x : List ℕ). outcomeText (made s (found x))) (kept-octets d h)) (same ∙ ap (λ (x : List ℕ). made s (found x) .session) (kept-octets d h))
-
-      pub on-refused : {n : ℕ} {z : Session} → r .taken ≡ taken.Refused n → text ≡ outcomeText (made s (unread n)) → z ≡ made s (unread n) .session → Then z
-      on-refused {n} d said same = on-offer (unread n) (known a s kept (drop at window) f d) (seen d) l still said same
-
-    pub stop-missing : {n : ℕ} {q : Listed} → r .taken ≡ taken.Missing n → q ≡ stopped (r .source) s at size (Missing n) → Nexts (receiver a₀ s₀) kept₀ window out₀ q kept′ out
+    pub stop-missing : {n : ℕ} {q : Listed} → r .taken ≡ taken.Missing n → q ≡ stopped (r .source) s at size (Missing n) → Nexts
+        (receiver a₀ s₀) kept₀ window out₀ q kept′ out
     stop-missing d g = finish (so .text) g (seen d) (so .long) (so .leaves)
 
-    pub stop-over : {q : Listed} → r .taken ≡ taken.Over → q ≡ stopped (r .source) s at size Over → Nexts (receiver a₀ s₀) kept₀ window out₀ q kept′ out
+    pub stop-over : {q : Listed} → r .taken ≡ taken.Over → q ≡ stopped (r .source) s at size Over → Nexts
+        (receiver a₀ s₀) kept₀ window out₀ q kept′ out
     stop-over d g = finish (so .text) g (seen d) (so .long) (so .leaves)
 
-    pub stop-bad : {r′ : ℕ} {out′ : List ℕ} {q : Listed} → r .taken ≡ taken.Bad → Puts longestLine badRecording out size out′ r′ → q ≡ stopped (r .source) s at r′ Over
+    pub stop-bad : {r′ : ℕ} {out′ : List ℕ} {q : Listed} → r .taken ≡ taken.Bad → Puts longestLine badRecording out size out′ r′
+        → q ≡ stopped (r .source) s at r′ Over
         → Nexts (receiver a₀ s₀) kept₀ window out₀ q kept′ out′
     stop-bad {r′} d p g =
         let l : Laid longestLine badRecording out size _ r′ = laid-puts (omega (arith, fits)) (omega arith) p in
         finish (so .text ++ badRecording) g
-        (seen d ∙ behind-behind at 0 (so .text) badRecording _ ∙ ap (λ (k : ℕ). behind k (so .text ++ badRecording) (here (receiver (r .source) s) kept′ Over)) (add-zero at))
-        (simp length-append (omega (arith, l .behind, so .long))) (written-more (so .text) out₀ (so .leaves) (so .long) (omega (arith, fits)) (so .same) l)
+        (seen d ∙ behind-behind at 0 (so .text) badRecording _ ∙ ap
+        (λ (k : ℕ). behind k (so .text ++ badRecording) (here (receiver (r .source) s) kept′ Over)) (add-zero at))
+        (simp length-append (omega (arith, l .behind, so .long)))
+        (written-more (so .text) out₀ (so .leaves) (so .long) (omega (arith, fits)) (so .same) l)
+
+-- what was listed so far, where the names of what it is said of are others
+pub carried : {a₀ : Source} {s₀ : Session} {kept₀ window out₀ kept out out′ octets octets′ lengths lengths′ firsts firsts′ : List ℕ}
+    {a : Source} {s s′ : Session} {at size size′ : ℕ}
+    → out ≡ out′ → octets ≡ octets′ → lengths ≡ lengths′ → firsts ≡ firsts′ → s ≡ s′ → size ≡ size′
+    → Sofar a₀ s₀ kept₀ window out₀ kept out′ a s′ at size′ × (length octets′ ≡ 501) × (length lengths′ ≡ 16) × (length firsts′ ≡ 16)
+    → Sofar a₀ s₀ kept₀ window out₀ kept out a s at size × (length octets ≡ 501) × (length lengths ≡ 16) × (length firsts ≡ 16)
+carried {a₀} {s₀} {kept₀} {window} {out₀} {kept} {out} {out′} {a = a} {s} {s′} {at} {size′ = size′} p q r t u v i = (
+  subst (λ (n : ℕ). Sofar a₀ s₀ kept₀ window out₀ kept out a s at n) (sym v)
+      (subst (λ (z : Session). Sofar a₀ s₀ kept₀ window out₀ kept out a z at size′) (sym u)
+      (subst (λ (o : List ℕ). Sofar a₀ s₀ kept₀ window out₀ kept o a s′ at size′) (sym p) (i .0))),
+  ap length q ∙ i .1,
+  ap length r ∙ i .2,
+  ap length t ∙ i .3,
+)
 
 pub stop-full : {a₀ : Source} {s₀ : Session} {kept₀ window out₀ kept out : List ℕ} {a : Source} {s : Session} {at size : ℕ} {q : Listed}
-    → Sofar a₀ s₀ kept₀ window out₀ kept out a s at size → length out - size < room → q ≡ stopped a s at size Full → Nexts (receiver a₀ s₀) kept₀ window out₀ q kept out
+    → Sofar a₀ s₀ kept₀ window out₀ kept out a s at size → length out - size < room → q ≡ stopped a s at size Full → Nexts
+    (receiver a₀ s₀) kept₀ window out₀ q kept out
 stop-full {window = window} {kept = kept} {a = a} {s = s} {at = at} so h g =
-    finish (so .text) g (so .rest ∙ ap (behind at (so .text)) (without-room (so .to-come) (receiver a s) kept (drop at window) _ (omega (arith, so .same)))) (so .long) (so .leaves)
+    finish (so .text) g (so .rest ∙ ap (behind at (so .text))
+    (without-room (so .to-come) (receiver a s) kept (drop at window) _ (omega (arith, so .same)))) (so .long) (so .leaves)

@@ -14,7 +14,8 @@ use Rattle.listing.proofs.end.Kinds as kend
 use Rattle.listing.proofs.end.Reads as rend
 
 -- the answer, the octets kept and the lent output afterwards
-one-next : {a : Receiver} {kept w out : List ℕ} {r q : Listed} {kept₁ kept₂ out₁ out₂ : List ℕ} → Nexts a kept w out r kept₁ out₁ → Nexts a kept w out q kept₂ out₂
+one-next : {a : Receiver} {kept w out : List ℕ} {r q : Listed} {kept₁ kept₂ out₁ out₂ : List ℕ} → Nexts a kept w out r kept₁ out₁
+    → Nexts a kept w out q kept₂ out₂
     → _≡_ {A = Listed × List ℕ × List ℕ} (r, kept₁, out₁) (q, kept₂, out₂)
 one-next {q = q} {kept₁} {kept₂} {out₁} a b =
     ap (λ (x : Listed). (x, kept₁, out₁)) (a .answers ∙ sym (b .answers))

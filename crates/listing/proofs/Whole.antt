@@ -16,7 +16,8 @@ use Rattle.listing.specs.Whole.{Run, starts, reads, lists, PiecesAreList
 use Rattle.listing.proofs.Calls.{part-of}
 use Rattle.listing.proofs.Parts.{none-listed}
 
-first : {a₀ : Receiver} {kept₀ octets text : List ℕ} {a : Receiver} {kept w : List ℕ} → Run a₀ kept₀ octets text a kept w → (p : List ℕ) (ended : Bool)
+first : {a₀ : Receiver} {kept₀ octets text : List ℕ} {a : Receiver} {kept w : List ℕ} → Run a₀ kept₀ octets text a kept w → (p : List ℕ)
+    (ended : Bool)
     → toCome a₀ kept₀ (octets ++ p) ended ≡ text ++ toCome a kept (w ++ p) ended
 first starts p ended = refl
 first {a₀} {kept₀} {octets} {text} {a} {kept} {w} (reads {octets = octets′} {w = w′} piece run) p ended =
@@ -48,7 +49,8 @@ module _ {a₀ : Receiver} {kept₀ octets text : List ℕ} {a : Receiver} {kept
   prompt : (n : ℕ) → Waits (a .source) kept w n → text ≡ toCome a₀ kept₀ octets false
   prompt n h =
       sym (now-to-come false
-      ∙ ap (λ (x : List ℕ). text ++ x) (ap (λ (f : Found). listed (a .session) f false) (h .none) ∙ none-yet (cutAt (a .source)) (a .session))
+      ∙ ap (λ (x : List ℕ). text ++ x) (ap (λ (f : Found). listed (a .session) f false) (h .none) ∙ none-yet (cutAt (a .source))
+      (a .session))
       ∙ append-nil text)
 
   last : (n : ℕ) → Waits (a .source) kept w n → text ++ atEnd (a .source) ≡ toCome a₀ kept₀ octets true

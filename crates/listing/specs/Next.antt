@@ -91,10 +91,12 @@ Stops a kept w left Over = source.Over (a .source) kept
 
 -- The text that a call leaves is the next part of what is to come, whatever octets p come behind the window.
 pub record Part (a : Receiver) (kept w out : List ℕ) (r : Listed) (kept′ out′ : List ℕ) : Type 0 where
-  pub text : (p : List ℕ) (ended : Bool) → toCome a kept (w ++ p) ended ≡ take (r .size) out′ ++ toCome (r .receiver) kept′ (drop (r .used) w ++ p) ended
+  pub text : (p : List ℕ) (ended : Bool) → toCome a kept (w ++ p) ended ≡ take (r .size) out′ ++ toCome (r .receiver) kept′
+      (drop (r .used) w ++ p) ended
   pub inside : r .used ≤ length w
   pub within : r .size ≤ length out
   pub stops : Stops (r .receiver) kept′ (drop (r .used) w) (length out - r .size) (r .stop)
 
 pub record NextsAreParts : Type 0 where
-  pub part : {a : Receiver} {kept w out : List ℕ} {r : Listed} {kept′ out′ : List ℕ} → Nexts a kept w out r kept′ out′ → Part a kept w out r kept′ out′
+  pub part : {a : Receiver} {kept w out : List ℕ} {r : Listed} {kept′ out′ : List ℕ} → Nexts a kept w out r kept′ out′
+      → Part a kept w out r kept′ out′

@@ -24,7 +24,8 @@ pub data Run (a₀ : Receiver) (kept₀ : List ℕ) : List ℕ → List ℕ → 
 -- Of what is to come from the receiver that a run started with:
 pub record PiecesAreListed : Type 0 where
   -- The text left so far is its first part, whatever comes.
-  pub first : {a₀ : Receiver} {kept₀ octets text : List ℕ} {a : Receiver} {kept w : List ℕ} → Run a₀ kept₀ octets text a kept w → (p : List ℕ) (ended : Bool)
+  pub first : {a₀ : Receiver} {kept₀ octets text : List ℕ} {a : Receiver} {kept w : List ℕ} → Run a₀ kept₀ octets text a kept w →
+      (p : List ℕ) (ended : Bool)
       → toCome a₀ kept₀ (octets ++ p) ended ≡ text ++ toCome a kept (w ++ p) ended
   -- When a call tells that octets are missing, all that the octets read so far make is left.
   pub prompt : {a₀ : Receiver} {kept₀ octets text : List ℕ} {a : Receiver} {kept w : List ℕ} (n : ℕ) → Run a₀ kept₀ octets text a kept w
@@ -33,7 +34,8 @@ pub record PiecesAreListed : Type 0 where
   pub last : {a₀ : Receiver} {kept₀ octets text : List ℕ} {a : Receiver} {kept w : List ℕ} (n : ℕ) → Run a₀ kept₀ octets text a kept w
       → Waits (a .source) kept w n → text ++ atEnd (a .source) ≡ toCome a₀ kept₀ octets true
   -- When nothing comes any more, all is left that it ever makes.
-  pub over : {a₀ : Receiver} {kept₀ octets text : List ℕ} {a : Receiver} {kept w : List ℕ} → Run a₀ kept₀ octets text a kept w → Over (a .source) kept
+  pub over : {a₀ : Receiver} {kept₀ octets text : List ℕ} {a : Receiver} {kept w : List ℕ} → Run a₀ kept₀ octets text a kept w → Over
+      (a .source) kept
       → (p : List ℕ) (ended : Bool) → text ≡ toCome a₀ kept₀ (octets ++ p) ended
 
 -- What is to come from a receiver of a recording of which nothing is read yet is the recording's listing.

@@ -1,6 +1,6 @@
 // Lists what a source tells, in pieces: a step by value, without reading or writing a file.
 //
-// What stands where is the source's, the text of a line lines', the frames the session's, the packets the packet reader's.
+// source says where frames stand, listing_lines writes the text of a line, session takes the frames, and packet reads the packets.
 ghost use Prim.Native.Nat.{_+_, _*_, _≤_};
 ghost use mathlib.Core.Path.{_≡_};
 ghost use lib.ListN.{length, take};
@@ -12,6 +12,7 @@ ghost use Rattle.listing.specs.Listing.{packetsText};
 ghost use Rattle.listing.specs.Contracts.{room, atEnd, answered, cut};
 ghost use Rattle.listing.specs.Next.{stopped, Nexts};
 use listing_lines::LINE;
+use listing_lines::bad_line;
 use packet::Packet;
 use receiver::Receiver;
 use session::Session;
@@ -41,18 +42,16 @@ pub struct Listed {
     pub stop: Stop,
 }
 
-impl Listed {
-    // What a call answers that stops there.
-    fn stopped(source: Source, session: Session, used: usize, size: usize, stop: Stop) -> Listed
-        ensures { λ r. ⌜ r ≡ stopped source session used size stop ⌝ }
-    {
-        let receiver = Receiver { source, session };
-        Listed {
-            receiver,
-            used,
-            size,
-            stop,
-        }
+// What a call answers that stops there.
+fn stopped(source: Source, session: Session, used: usize, size: usize, stop: Stop) -> Listed
+    ensures { λ r. ⌜ r ≡ stopped source session used size stop ⌝ }
+{
+    let receiver = Receiver { source, session };
+    Listed {
+        receiver,
+        used,
+        size,
+        stop,
     }
 }
 
@@ -71,95 +70,35 @@ pub fn next(receiver: Receiver, window: &[u8], kept: &mut [u8; KEPT], out: &mut 
     while ROOM <= out.len() - size {
         let scanned = source.scan(&window[at..], kept);
         let taken = scanned.taken;
-        let behind = at + scanned.used;
         source = scanned.source;
         match taken {
-            Taken::Missing(n) => return Listed::stopped(
-                source,
-                session,
-                at,
-                size,
-                Stop::Missing(n),
-            ),
-            Taken::Over => return Listed::stopped(source, session, at, size, Stop::Over),
-            Taken::Bad => {
-                let end = listing_lines::bad_line(out, size);
-                return Listed::stopped(source, session, at, end, Stop::Over);
-            }
+            Taken::Missing(n) => return stopped(source, session, at, size, Stop::Missing(n)),
+            Taken::Over => return stopped(source, session, at, size, Stop::Over),
+            Taken::Bad => return stopped(source, session, at, bad_line(out, size), Stop::Over),
             Taken::Opened(t) => {
                 let opened = Session::open(t as u8, 0);
                 session = opened.session;
                 size = listing_lines::header_line(out, size);
-                at = behind;
-                continue;
             }
-            Taken::Nothing => {
-                at = behind;
-                continue;
-            }
-            Taken::Here(from, to) => {
-                let start = at + from;
-                let end = at + to;
-                let stepped = session.step(
-                    &window[start..end],
+            Taken::Nothing => {}
+            Taken::Here(_, _) | Taken::Kept(_) | Taken::Refused(_) => {
+                let stepped = receiver::offer(
+                    session,
+                    taken,
+                    &window[at..],
+                    kept,
                     &mut octets,
                     &mut lengths,
                     &mut firsts,
                 );
                 session = stepped.session;
-                let answer = stepped.answer;
-                size = frame_lines(
-                    out,
-                    size,
-                    session.arrival,
-                    answer,
-                    &octets,
-                    &lengths,
-                    &firsts,
-                );
-                at = behind;
-                continue;
-            }
-            Taken::Kept(n) => {
-                let stepped = session.step(
-                    octets::part(kept, 0, n),
-                    &mut octets,
-                    &mut lengths,
-                    &mut firsts,
-                );
-                session = stepped.session;
-                let answer = stepped.answer;
-                size = frame_lines(
-                    out,
-                    size,
-                    session.arrival,
-                    answer,
-                    &octets,
-                    &lengths,
-                    &firsts,
-                );
-                at = behind;
-                continue;
-            }
-            Taken::Refused(n) => {
-                let stepped = session.turn_away(n, &octets, &lengths, &firsts);
-                session = stepped.session;
-                let answer = stepped.answer;
-                size = frame_lines(
-                    out,
-                    size,
-                    session.arrival,
-                    answer,
-                    &octets,
-                    &lengths,
-                    &firsts,
-                );
-                at = behind;
-                continue;
+                let told = stepped.answer;
+                size = frame_lines(out, size, session.arrival, told, &octets, &lengths, &firsts);
             }
         }
+        at += scanned.used;
     }
-    Listed::stopped(source, session, at, size, Stop::Full)
+    stopped(source, session, at, size, Stop::Full)
 }
 
 // What is told at the input's end, from index at on, and the index behind it. With less than a line's room there out stays.

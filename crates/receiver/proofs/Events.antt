@@ -4,14 +4,14 @@ use mathlib.Core.Path.{_≡_, refl, sym, ap, _∙_}
 use mathlib.Core.List.{List}
 use native.Mathlib.Omega.{arith}
 use lib.ListN.{length}
-use Rattle.source.specs.Scan.{scanned, keptBy, Scans, Waits, Finds}
+use Rattle.source.specs.Scan.{scanned, keptBy, Scans, Waits}
 use Rattle.source.proofs.Scanning.{scans-find}
 use Rattle.source.specs.declared.Source.{Source}
 use Rattle.source.specs.declared.Taken.{Taken}
 use Rattle.source.specs.declared.Taken.the-variants as taken
 use Rattle.session.specs.Lent.{Lent}
 use Rattle.session.specs.declared.Session.{Session}
-use Rattle.receiver.specs.Receive.{Tells, missing, toldOf, heard, received, Receives}
+use Rattle.receiver.specs.Receive.{missing, toldOf, heard, received, Receives}
 use Rattle.receiver.specs.declared.Receiver.{Receiver}
 use Rattle.receiver.specs.declared.Received.{Received}
 use Rattle.receiver.specs.declared.Event.the-variants as event
@@ -45,6 +45,7 @@ module _ (a : Receiver) (kept w : List ℕ) {l : Lent} {r : Received} {kept′ :
   pub missed : {n : ℕ} → r .event ≡ event.Missing n → Missed a kept w r n
   unfolding received
   missed {n} e =
-      let t : scanned (a .source) kept w .taken ≡ taken.Missing n = was-missing (a .session) (keptBy (a .source) kept w) w l (scanned (a .source) kept w .taken) n (sym (g .tells) ∙ ap toldOf e) in
+      let t : scanned (a .source) kept w .taken ≡ taken.Missing n = was-missing (a .session) (keptBy (a .source) kept w) w l
+      (scanned (a .source) kept w .taken) n (sym (g .tells) ∙ ap toldOf e) in
       let k = known (scans (a .source) kept w) t in
       record { used = g .used ∙ k .0 .2; source = ap (λ (b : Receiver). b .source) (g .receiver) ∙ k .0 .0; waits = k .1 }

@@ -1,12 +1,12 @@
 -- However a source's octets come in pieces, the calls hand out the packets of the whole.
 use Prim.Native.Nat.{ℕ, _-_}
-use mathlib.Core.Path.{_≡_, refl, sym, ap, _∙_, subst}
+use mathlib.Core.Path.{_≡_, refl, sym, ap, _∙_}
 use mathlib.Core.List.{List, [], _∷_, _++_, append-assoc, append-nil}
 use lib.ListN.{take, drop}
 use Rattle.rules.specs.Channel.{Handed}
 use Rattle.stretch.specs.Stretch.{Stretch, found, unread}
-use Rattle.source.specs.Found.{Item, offers, Found, nothing, joined, foundIn}
-use Rattle.source.specs.Scan.{scanned, keptBy, Scans, tells, Waits, Over, Finds}
+use Rattle.source.specs.Found.{Item, offers, Found}
+use Rattle.source.specs.Scan.{scanned, keptBy, tells, Waits, Over, Finds}
 use Rattle.source.proofs.Scanning.{scans-find}
 use Rattle.source.specs.declared.Source.{Source}
 use Rattle.source.specs.declared.Taken.{Taken}
@@ -42,7 +42,8 @@ finds : (s : Source) (kept w : List ℕ) → Finds s kept w (scanned s kept w) (
 finds s kept w = scans-find .finds (record { answers = refl; keeps = refl })
 
 -- a call's packets, and then those that are to come behind it
-next-part : (a : Receiver) (kept w : List ℕ) (l l′ : Lent) (r : Received) (kept′ : List ℕ) → Enough l → Receives a kept w l r kept′ l′ → (p : List ℕ)
+next-part : (a : Receiver) (kept w : List ℕ) (l l′ : Lent) (r : Received) (kept′ : List ℕ) → Enough l → Receives a kept w l r kept′ l′ →
+    (p : List ℕ)
     → toCome a kept (w ++ p) ≡ received a kept w l .packets ++ toCome (r .receiver) kept′ (drop (r .used) w ++ p)
 unfolding received
 next-part a kept w l l′ r kept′ e g p =
@@ -51,7 +52,8 @@ next-part a kept w l l′ r kept′ e g p =
     ∙ sym
     (ap (λ (k : List ℕ). received a kept w l .packets ++ toCome (r .receiver) k (drop (r .used) w ++ p)) (g .keeps)
     ∙ ap (λ (n : ℕ). received a kept w l .packets ++ toCome (r .receiver) (received a kept w l .kept) (drop n w ++ p)) (g .used)
-    ∙ ap (λ (b : Receiver). received a kept w l .packets ++ toCome b (received a kept w l .kept) (drop (received a kept w l .used) w ++ p)) (g .receiver))
+    ∙ ap (λ (b : Receiver). received a kept w l .packets ++ toCome b (received a kept w l .kept) (drop (received a kept w l .used) w ++ p))
+    (g .receiver))
 
 first : {a₀ : Receiver} {kept₀ octets : List ℕ} {hs : List Handed} {a : Receiver} {kept w : List ℕ} → Run a₀ kept₀ octets hs a kept w
     → (p : List ℕ) → toCome a₀ kept₀ (octets ++ p) ≡ hs ++ toCome a kept (w ++ p)
@@ -65,7 +67,8 @@ first (takes {hs = hs′} {a = a′} {kept = kept₁} {w = w′} l l′ r kept�
     ∙ ap (λ (x : List Handed). hs′ ++ x) (next-part a′ kept₁ w′ l l′ r kept′ e g p)
     ∙ sym (append-assoc hs′ (received a′ kept₁ w′ l .packets) _)
 
-module _ {a₀ : Receiver} {kept₀ octets : List ℕ} {hs : List Handed} {a : Receiver} {kept w : List ℕ} (run : Run a₀ kept₀ octets hs a kept w) where
+module _ {a₀ : Receiver} {kept₀ octets : List ℕ} {hs : List Handed} {a : Receiver} {kept w : List ℕ}
+    (run : Run a₀ kept₀ octets hs a kept w) where
   prompt : (n : ℕ) → Waits (a .source) kept w n → hs ≡ toCome a₀ kept₀ octets
   prompt n h =
       sym

@@ -12,12 +12,16 @@ use Rattle.session.specs.Step.{told}
 use Rattle.session.specs.declared.Accepted.{Accepted}
 use Rattle.session.specs.declared.StepAnswer.{StepAnswer}
 use Rattle.session.specs.declared.StepAnswer.the-variants as steps
+use Rattle.session.specs.declared.Stepped.{Stepped}
+use Rattle.session.proofs.Told.{one-stepped}
 use Rattle.receiver.specs.Receive.{Tells, missing, bad, over, opened, nothing, answered, toldOf, Receipt, Gives}
 use Rattle.receiver.specs.declared.Receiver.{Receiver}
 use Rattle.receiver.specs.declared.Received.{Received}
 use Rattle.receiver.specs.declared.Event.{Event}
 use Rattle.receiver.specs.declared.Event.the-variants as event
 use Rattle.receiver.proofs.Beginning.{one-begun}
+use Rattle.receiver.proofs.offer.Kinds as koffer
+use Rattle.receiver.proofs.offer.Reads as roffer
 use Rattle.receiver.proofs.Receiver.recording.Kinds as krecording
 use Rattle.receiver.proofs.Receiver.recording.Reads as rrecording
 use Rattle.receiver.proofs.Receiver.kiss.Kinds as kkiss
@@ -82,3 +86,8 @@ one-received {r = r} {q = q} a b =
 pub next-fixed : Fixes knext.ps knext.r {A = Received × List ℕ × Lent} rnext.Post
     (λ κs x s. (x, now (s .1 .1 .0), lent (now (s .1 .1 .1 .0)) (now (s .1 .1 .1 .1 .0)) (now (s .1 .1 .1 .1 .1 .0))))
 next-fixed κs a x y s t p q = one-received p q
+
+-- the answer, and what was lent afterwards
+pub offer-fixed : Fixes koffer.ps koffer.r {A = Stepped × Lent} roffer.Post
+    (λ κs x s. (x, lent (now (s .1 .1 .1 .1 .0)) (now (s .1 .1 .1 .1 .1 .0)) (now (s .1 .1 .1 .1 .1 .1 .0))))
+offer-fixed κs a x y s t p q = one-stepped p q

@@ -3,6 +3,7 @@ use Prim.Native.Nat.{ℕ, _-_, _≤_, _<_}
 use mathlib.Core.Path.{_≡_}
 use mathlib.Core.List.{List, []}
 use lib.ListN.{take, drop}
+use Rattle.octets.specs.Parts.{part}
 use Rattle.answer.specs.Told.{Told, accept, refuse}
 use Rattle.answer.specs.Refusals.{timeLength}
 use Rattle.stretch.specs.Stretch.{Stretch, found, unread}
@@ -15,10 +16,12 @@ use Rattle.rules.specs.Channel.{Handed}
 use Rattle.session.specs.Open.{opening}
 use Rattle.session.specs.Open.{told as toldOpening}
 use Rattle.session.specs.Lent.{Lent, laid}
+use Rattle.session.specs.Step as session
 use Rattle.session.specs.Step.{Outcome, told}
 use Rattle.session.specs.Statements.{offered}
 use Rattle.session.specs.declared.Session.{Session}
 use Rattle.session.specs.declared.Accepted.{Accepted}
+use Rattle.session.specs.declared.Stepped.{Stepped}
 use Rattle.receiver.specs.declared.Receiver.{Receiver}
 use Rattle.receiver.specs.declared.Begun.{Begun}
 use Rattle.receiver.specs.declared.Received.{Received}
@@ -54,6 +57,32 @@ quiet s t = record { session = s; tells = t; packets = [] }
 
 abbrev pub answeredBy : Outcome → Heard
 answeredBy o = record { session = o .session; tells = answered (o .answer); packets = o .packets }
+
+-- The octets of a frame that was found in w, or in the octets kept; none where no frame was found, or not all of its octets are there.
+abbrev pub frameOf : List ℕ → List ℕ → Taken → List ℕ
+frameOf kept w (taken.Missing n) = []
+frameOf kept w taken.Bad = []
+frameOf kept w taken.Over = []
+frameOf kept w (taken.Opened t) = []
+frameOf kept w taken.Nothing = []
+frameOf kept w (taken.Here from to) = part w from (to - from)
+frameOf kept w (taken.Kept n) = part kept 0 n
+frameOf kept w (taken.Refused n) = []
+
+-- What a session is offered of it: a stretch that was refused, or else a frame.
+abbrev pub stretchOf : List ℕ → List ℕ → Taken → Stretch
+stretchOf kept w (taken.Missing n) = found []
+stretchOf kept w taken.Bad = found []
+stretchOf kept w taken.Over = found []
+stretchOf kept w (taken.Opened t) = found []
+stretchOf kept w taken.Nothing = found []
+stretchOf kept w (taken.Here from to) = found (part w from (to - from))
+stretchOf kept w (taken.Kept n) = found (part kept 0 n)
+stretchOf kept w (taken.Refused n) = unread n
+
+-- The contract of an offer: what comes of x, l being what was lent, and l′ the same afterwards.
+abbrev pub Offers : Session → Stretch → Lent → Stepped → Lent → Type 0
+Offers s x l r l′ = session.Gives (offered s x l) r l l′
 
 -- What a session makes of what was found in w, or in the octets kept, with so much lent.
 abbrev pub heard : Session → List ℕ → List ℕ → Lent → Taken → Heard

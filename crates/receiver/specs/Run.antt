@@ -44,7 +44,8 @@ pub record PiecesAreReceived : Type 0 where
   pub first : {a₀ : Receiver} {kept₀ octets : List ℕ} {hs : List Handed} {a : Receiver} {kept w : List ℕ} → Run a₀ kept₀ octets hs a kept w
       → (p : List ℕ) → toCome a₀ kept₀ (octets ++ p) ≡ hs ++ toCome a kept (w ++ p)
   -- When a call tells that octets are missing, they are all that the octets read so far make.
-  pub prompt : {a₀ : Receiver} {kept₀ octets : List ℕ} {hs : List Handed} {a : Receiver} {kept w : List ℕ} (n : ℕ) → Run a₀ kept₀ octets hs a kept w
+  pub prompt : {a₀ : Receiver} {kept₀ octets : List ℕ} {hs : List Handed} {a : Receiver} {kept w : List ℕ} (n : ℕ)
+      → Run a₀ kept₀ octets hs a kept w
       → Waits (a .source) kept w n → hs ≡ toCome a₀ kept₀ octets
   -- When nothing comes any more, they are all that there ever are.
   pub over : {a₀ : Receiver} {kept₀ octets : List ℕ} {hs : List Handed} {a : Receiver} {kept w : List ℕ} → Run a₀ kept₀ octets hs a kept w

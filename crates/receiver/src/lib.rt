@@ -1,11 +1,12 @@
 // Receives frames: what a source tells opens a session or is offered to it, one section of the octets at hand a call.
 ghost use Rattle.session.specs.Lent.{lent};
 ghost use Rattle.source.specs.Scan.{freshKiss, freshBits};
-ghost use Rattle.receiver.specs.Receive.{fresh, Begins, Receives};
+ghost use Rattle.receiver.specs.Receive.{fresh, Begins, frameOf, stretchOf, Offers, Receives};
 ghost use mathlib.Core.Path.{_≡_};
 use session::OpenAnswer;
 use session::Session;
 use session::StepAnswer;
+use session::Stepped;
 use source::Source;
 use source::Taken;
 use stretch::KEPT;
@@ -120,20 +121,8 @@ impl Receiver {
             Taken::Nothing => {
                 event = Event::Nothing;
             }
-            Taken::Here(from, to) => {
-                let stepped = session.step(&window[from..to], octets, lengths, firsts);
-                session = stepped.session;
-                let answer = stepped.answer;
-                event = Event::Answered(answer);
-            }
-            Taken::Kept(n) => {
-                let stepped = session.step(octets::part(kept, 0, n), octets, lengths, firsts);
-                session = stepped.session;
-                let answer = stepped.answer;
-                event = Event::Answered(answer);
-            }
-            Taken::Refused(n) => {
-                let stepped = session.turn_away(n, octets, lengths, firsts);
+            Taken::Here(_, _) | Taken::Kept(_) | Taken::Refused(_) => {
+                let stepped = offer(session, taken, window, kept, octets, lengths, firsts);
                 session = stepped.session;
                 let answer = stepped.answer;
                 event = Event::Answered(answer);
@@ -145,5 +134,50 @@ impl Receiver {
             used: scanned.used,
             event,
         }
+    }
+}
+
+// What a session makes of what was found in the window or in the octets kept: of a frame what `Session::step` does, of a stretch that was
+// refused what `Session::turn_away` does. Where neither was found, a frame of no octets is offered.
+pub fn offer<'a>(
+    session: Session,
+    taken: Taken,
+    window: &'a [u8],
+    kept: &'a [u8; KEPT],
+    octets: &mut [u8],
+    lengths: &mut [u16],
+    firsts: &mut [u32],
+) -> Stepped
+    ensures { λ r. ⌜ Offers session (stretchOf (now (kept .entry)) (now (window .entry)) taken)
+        (lent (now (octets .entry)) (now (lengths .entry)) (now (firsts .entry))) r
+        (lent (now (octets .exit)) (now (lengths .exit)) (now (firsts .exit))) ⌝ }
+{
+    let stepped;
+    if let Taken::Refused(n) = taken {
+        stepped = session.turn_away(n, octets, lengths, firsts);
+    } else {
+        stepped = session.step(frame_of(taken, window, kept), octets, lengths, firsts);
+    }
+    stepped
+}
+
+// The octets of the frame that was found; none where no frame was found, or not all of its octets are there.
+fn frame_of<'a>(taken: Taken, window: &'a [u8], kept: &'a [u8; KEPT]) -> &'a [u8]
+    ensures { λ r. ⌜ now r ≡ frameOf (now (kept .entry)) (now (window .entry)) taken ⌝ }
+{
+    match taken {
+        Taken::Here(from, to) => {
+            if to < from {
+                return octets::part(window, from, 0);
+            }
+            octets::part(window, from, to - from)
+        }
+        Taken::Kept(n) => octets::part(kept, 0, n),
+        Taken::Missing(_)
+        | Taken::Bad
+        | Taken::Over
+        | Taken::Opened(_)
+        | Taken::Nothing
+        | Taken::Refused(_) => octets::part(window, 0, 0),
     }
 }

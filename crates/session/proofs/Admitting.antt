@@ -34,7 +34,8 @@ admits s l e =
     record { room = enough l (h₁ .0); sound = h₂ .0; numbers = eqb-false _ _ (h₃ .0) }
 
 -- what holds of each refusal, and of o where it is reached, holds of what comes of it
-pub admitted-picks : (P : Outcome → Type 0) (s : Session) (l : Lent) (o : Outcome) → (Admits s l → P o) → ((n : ℕ) → n ≡ barred s l → P (refused s n))
+pub admitted-picks : (P : Outcome → Type 0) (s : Session) (l : Lent) (o : Outcome) → (Admits s l → P o) →
+    ((n : ℕ) → n ≡ barred s l → P (refused s n))
     → P (admitted s l o)
 admitted-picks P s l o p q = picks P (eqb (barred s l) 0) o _ (λ e. p (admits s l (eqb-true _ _ e))) (λ e. q (barred s l) refl)
 
@@ -68,38 +69,15 @@ gives-refused s r l = record { session = refl; answers = refl; leaves = refl }
 pub gives-plain : (s : Session) (n : ℕ) {r : Refusal} → r ≡ plain n → (l : Lent) → Gives (refused s n) (turnedDown s r) l l
 gives-plain s n e l = subst (λ (x : Refusal). Gives (refused s n) (turnedDown s x) l l) (sym e) (gives-refused s (plain n) l)
 
-module _ (s : Session) (l : Lent) where
-  barring : (n : ℕ) → n ≡ barred s l → (n ≡ 0 → ⊥) → {r : Refusal} → r ≡ plain n → (o : Outcome) → Gives (admitted s l o) (turnedDown s r) l l
-  barring n e z {r} p o =
+-- with what the gate answered
+module _ (s : Session) (l : Lent) {n : ℕ} (e : n ≡ barred s l) where
+  pub bars : (n ≡ 0 → ⊥) → {r : Refusal} → r ≡ plain n → (o : Outcome) → Gives (admitted s l o) (turnedDown s r) l l
+  bars z {r} p o =
       let no : eqb (barred s l) 0 ≡ false = ne-eqb (barred s l) 0 (λ h. z (e ∙ h)) in
       subst (λ (x : Outcome). Gives x (turnedDown s r) l l)
       (passed (eqb (barred s l) 0) o (refused s (barred s l)) (refused s n) no (ap (refused s) e)) (gives-plain s n p l)
 
-  -- refusal 1
-  pub bars-room : scant l ≡ true → {r : Refusal} → r ≡ plain no.room → (o : Outcome) → Gives (admitted s l o) (turnedDown s r) l l
-  unfolding barred
-  bars-room h = barring no.room (picked _ _ _ h) (λ z. omega arith)
-
-  module _ (h : scant l ≡ false) where
-    -- refusal 4
-    pub bars-session : unsound s ≡ true → {r : Refusal} → r ≡ plain no.session → (o : Outcome) → Gives (admitted s l o) (turnedDown s r) l l
-    unfolding barred
-    bars-session u = barring no.session (passed _ _ _ _ h (picked _ _ _ u)) (λ z. omega arith)
-
-    module _ (u : unsound s ≡ false) where
-      -- refusal 3
-      pub bars-arrivals : s .arrival ≡ lastNumber → {r : Refusal} → r ≡ plain no.arrivals → (o : Outcome)
-          → Gives (admitted s l o) (turnedDown s r) l l
-      unfolding barred
-      bars-arrivals e =
-          barring no.arrivals (passed _ _ _ _ h (passed _ _ _ _ u (picked _ _ _ (eq-eqb _ _ e)))) (λ z. omega arith)
-
-      module _ (n : s .arrival ≡ lastNumber → ⊥) where
-        pub passes : Admits s l
-        passes = record { room = enough l h; sound = u; numbers = n }
-
-        pub gives-admitted : (o : Outcome) (r : Stepped) (l′ : Lent) → Gives o r l l′ → Gives (admitted s l o) r l l′
-        unfolding barred
-        gives-admitted o r l′ g =
-            let none : barred s l ≡ 0 = sym (passed _ _ _ _ h (passed _ _ _ _ u (passed _ _ _ _ (ne-eqb _ _ n) refl))) in
-            subst (λ (x : Outcome). Gives x r l l′) (picked (eqb (barred s l) 0) o (refused s (barred s l)) (eq-eqb (barred s l) 0 none)) g
+  pub passes : n ≡ 0 → (o : Outcome) (r : Stepped) (l′ : Lent) → Gives o r l l′ → Gives (admitted s l o) r l l′
+  passes z o r l′ g =
+      subst (λ (x : Outcome). Gives x r l l′)
+      (picked (eqb (barred s l) 0) o (refused s (barred s l)) (eq-eqb (barred s l) 0 (sym e ∙ z))) g

@@ -39,7 +39,15 @@ accepted-few : (s : Session) (f : Frame) (d : List ℕ) → unsound s ≡ false 
 unfolding accepted
 accepted-few s f d u l =
     let b : Bounded (ruled s f d) = ruled-bounded s f d u l in
-    record { count = refl; under = ruled-arrivals s f d; used = ruled-arrivals s f d; packets = b .packets; octets = b .octets; headers = b .headers }
+    record {
+      count = refl;
+      under = ruled-arrivals s f d;
+      used = ruled-arrivals s f d;
+      packets = b .packets;
+      octets = b .octets;
+      headers =
+          b .headers;
+    }
 
 heeded-few : (s : Session) (frame : List ℕ) → unsound s ≡ false → Few (heeded s frame (readFrame (s .t) frame))
 heeded-few s frame u =

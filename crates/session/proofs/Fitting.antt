@@ -15,7 +15,8 @@ use Rattle.rules.proofs.Standing.{View, short, more, done, bad, view, not-whole
 -- a length outside 16 to 251
 pub outside : (n : ℕ) → (ltb n 16 || ltb 251 n) ≡ true → allowed n ≡ false
 outside n e =
-    ⊎-elim (λ h. simp (lt-leb 16 n (ltb-true _ _ h))) (λ h. let l : 251 < n = ltb-true _ _ h in simp (le-leb 16 n (omega arith), lt-leb n 251 l))
+    ⊎-elim (λ h. simp (lt-leb 16 n (ltb-true _ _ h)))
+    (λ h. let l : 251 < n = ltb-true _ _ h in simp (le-leb 16 n (omega arith), lt-leb n 251 l))
     (or-true (ltb n 16) _ e)
 
 pub record Within (n : ℕ) : Type 0 where
@@ -56,12 +57,14 @@ fits-empty [] d p e = refl
 fits-empty (x ∷ h) d p e = absurd (omega arith)
 
 -- with a packet held: its length is still unknown, or wrong, or known
-pub fits-unknown : (h d : List ℕ) (p : ℕ) → (length h ≡ 0 → ⊥) → length h + length d < 6 → eqb p (pointerTo (length d) (length d)) ≡ fits h p d
+pub fits-unknown : (h d : List ℕ) (p : ℕ) → (length h ≡ 0 → ⊥) → length h + length d < 6 → eqb p
+    (pointerTo (length d) (length d)) ≡ fits h p d
 unfolding lengthHolds placeAfter
 fits-unknown [] d p n l = absurd (n refl)
 fits-unknown (x ∷ h) d p n l = simp (lt-ltb (length (x ∷ h ++ d)) 6 (simp length-append (omega arith)))
 
-pub fits-wrong : (h d : List ℕ) (p : ℕ) → (length h ≡ 0 → ⊥) → 6 ≤ length h + length d → allowed (lengthIn (h ++ d)) ≡ false → false ≡ fits h p d
+pub fits-wrong : (h d : List ℕ) (p : ℕ) → (length h ≡ 0 → ⊥) → 6 ≤ length h + length d → allowed (lengthIn (h ++ d)) ≡ false
+    → false ≡ fits h p d
 unfolding lengthHolds placeAfter
 fits-wrong [] d p n l e = absurd (n refl)
 fits-wrong (x ∷ h) d p n l e = simp (le-ltb (length (x ∷ h ++ d)) 6 (simp length-append (omega arith)), e)
@@ -79,7 +82,8 @@ four true true false c = refl
 four true false b c = refl
 four false a b c = refl
 
-pub dropped-is : (i : Bool) (held xs : List ℕ) (t : Bool) → (((i && ltb 0 (length held)) && ltb (length held) 6) && leb 6 (length held + length xs)) ≡ t
+pub dropped-is : (i : Bool) (held xs : List ℕ) (t : Bool) →
+    (((i && ltb 0 (length held)) && ltb (length held) 6) && leb 6 (length held + length xs)) ≡ t
     → cond t 1 0 ≡ cond i (dropped held xs) 0
 dropped-is i held xs t e =
     ap {B = ℕ} (λ (b : Bool). cond b 1 0) (sym e) ∙ four i (ltb 0 (length held)) (ltb (length held) 6) (leb 6 (length held + length xs))

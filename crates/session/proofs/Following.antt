@@ -11,13 +11,15 @@ use lib.Dec.{eqb}
 use borrow.Author.Tests.{eq-eqb, ne-eqb}
 use Rattle.counts.specs.declared.Loss.{Loss}
 use Rattle.counts.specs.Lost.{lastOf, lostSince, number}
-use Rattle.rules.specs.Channel.{heldOf, begunIn, cleared, nothing, Work, outOfStep, holding, feed, fits, dropped, enter, follow, afterLoss, step}
+use Rattle.rules.specs.Channel.{heldOf, begunIn, cleared, nothing, Work, outOfStep, holding, feed, fits, dropped, enter, follow, afterLoss}
+use Rattle.rules.specs.Channel.{step}
 use Rattle.rules.specs.Bounds.{Sound}
 use Rattle.rules.specs.Packets.{bare}
 use Rattle.rules.specs.Cutting.{Cut}
 use Rattle.rules.proofs.Standing.{empty-unfinished}
-use Rattle.rules.proofs.Bounds.{sound-standing, sound-held, passing-sound, dropped-most, step-bounded}
-use Rattle.rules.proofs.Cutting.{cuts-on}
+use Rattle.rules.proofs.Bounds.{sound-standing, sound-held, passing-sound}
+use Rattle.rules.proofs.Room.{dropped-most, step-bounded}
+use Rattle.rules.proofs.Cuts.{cuts-on}
 use Rattle.session.specs.Channel.{view, channelOf, stored, channelUnsound}
 use Rattle.session.specs.Lent.{Lent, laid}
 use Rattle.session.specs.Asked.{Begun, Taken, Followable}
@@ -39,10 +41,12 @@ pub record Carries (c : Channel) (lost k : ℕ) (inStep : Bool) : Type 0 where
   pub within : k ≤ length (c .held)
   pub sound : Sound inStep (take k (c .held))
   pub work : (a pointer : ℕ) (xs : List ℕ)
-      → clearedBy (afterLoss a lost (view c .inStep) (view c .held) pointer xs) ≡ clearedBy (follow a inStep (heldOf (c .first) (take k (c .held))) pointer xs)
+      → clearedBy (afterLoss a lost (view c .inStep) (view c .held) pointer xs) ≡ clearedBy
+      (follow a inStep (heldOf (c .first) (take k (c .held))) pointer xs)
 
 -- out of step with nothing held, the number kept is forgotten
-forgets : (a first pointer : ℕ) (xs : List ℕ) → clearedBy (follow a false nothing pointer xs) ≡ clearedBy (follow a false (heldOf first []) pointer xs)
+forgets : (a first pointer : ℕ) (xs : List ℕ) → clearedBy (follow a false nothing pointer xs) ≡ clearedBy
+    (follow a false (heldOf first []) pointer xs)
 unfolding follow
 forgets a first pointer xs = go (eqb pointer 254)
   where
@@ -56,7 +60,8 @@ pub carries-none : (c : Channel) (lost k : ℕ) (inStep : Bool) → 0 < lost →
 carries-none c zero k b l ek eb = absurd (omega arith)
 carries-none c (suc n) k b l ek eb =
     subst (λ (m : ℕ). Carries c (suc n) m b) (sym ek)
-    (subst (Carries c (suc n) 0) (sym eb) (record { within = omega arith; sound = refl; work = λ a pointer xs. forgets a (c .first) pointer xs }))
+    (subst (Carries c (suc n) 0) (sym eb)
+    (record { within = omega arith; sound = refl; work = λ a pointer xs. forgets a (c .first) pointer xs }))
 
 pub carries-all : (c : Channel) (lost k : ℕ) (inStep : Bool) → channelUnsound c ≡ false → length (c .held) ≡ 250 → lost ≤ 0 → k ≡ c .length
     → inStep ≡ c .instep → Carries c lost k inStep
@@ -72,14 +77,17 @@ carries-all c zero k b u h l ek eb =
     }))
 
 -- as the step of a channel has it
-pub steps : (c : Channel) (lost : Loss) (k : ℕ) (inStep : Bool) → Carries c (number lost) k inStep → (head : Head) (xs : List ℕ) (r : Followed)
+pub steps : (c : Channel) (lost : Loss) (k : ℕ) (inStep : Bool) → Carries c (number lost) k inStep → (head : Head) (xs : List ℕ)
+    (r : Followed)
     (l l′ : Lent) → lost ≡ lostSince (lastOf (c .heard) (c .last .0)) (head .count .0)
     → Follows (head .count .0) (follow (head .arrival) inStep (heldOf (c .first) (take k (c .held))) (head .pointer) xs) r l l′
-    → Heeds (step (head .arrival) (view c) (headed head xs)) (record { channel = r .channel; lost = lost; packets = r .packets; headers = r .headers }) l l′
+    → Heeds (step (head .arrival) (view c) (headed head xs))
+    (record { channel = r .channel; lost = lost; packets = r .packets; headers = r .headers }) l l′
 unfolding step view
 steps c lost k inStep w head xs r l l′ e h =
     let work : clearedBy (follow (head .arrival) inStep (heldOf (c .first) (take k (c .held))) (head .pointer) xs)
-    ≡ clearedBy (afterLoss (head .arrival) (number (lostSince (view c .last) (head .count .0))) (view c .inStep) (view c .held) (head .pointer) xs) =
+    ≡ clearedBy (afterLoss (head .arrival) (number (lostSince (view c .last) (head .count .0))) (view c .inStep) (view c .held)
+    (head .pointer) xs) =
     sym (w .work (head .arrival) (head .pointer) xs)
     ∙ ap (λ (n : Loss). clearedBy (afterLoss (head .arrival) (number n) (view c .inStep) (view c .held) (head .pointer) xs)) e in
     record {
@@ -94,7 +102,8 @@ steps c lost k inStep w head xs r l l′ e h =
 
 -- rule 5 is given the first k of the octets held, begun in frame `from`, the data from at on, and the headers completed in what was
 -- dropped; out of step if no packet goes on or starts
-pub record Parts (inStep : Bool) (first : ℕ) (held : List ℕ) (a pointer : ℕ) (xs : List ℕ) (l : Lent) (k d from at : ℕ) (on : Bool) : Type 0 where
+pub record Parts (inStep : Bool) (first : ℕ) (held : List ℕ) (a pointer : ℕ) (xs : List ℕ) (l : Lent) (k d from at : ℕ)
+    (on : Bool) : Type 0 where
   pub front : k ≤ length held
   pub back : at ≤ length xs
   pub taken : Taken d (take k held) (take (length xs - at) (drop at xs)) l
@@ -128,7 +137,8 @@ module _ (inStep : Bool) (first : ℕ) (held : List ℕ) (a pointer : ℕ) (xs :
   unfolding follow enter
   is-entered n e p = simp (ne-eqb _ _ n, e, ne-eqb _ _ p)
 
-  pub follows-raw : (count : ℕ) (l : Lent) (x : Channel) → pointer ≡ 254 → x ≡ stored (channelOf count inStep (cleared (heldOf first (held ++ []))))
+  pub follows-raw : (count : ℕ) (l : Lent) (x : Channel) → pointer ≡ 254 → x ≡ stored
+      (channelOf count inStep (cleared (heldOf first (held ++ []))))
       → Follows count followed (record { channel = x; packets = 0; headers = 0 }) l l
   follows-raw count l x e h =
       subst (λ (w : Work). Follows count w (record { channel = x; packets = 0; headers = 0 }) l l) (sym (is-raw e))
@@ -153,10 +163,12 @@ module _ (inStep : Bool) (first : ℕ) (held : List ℕ) (a pointer : ℕ) (xs :
     most : length (bare (followed .packets)) ≤ 16
     unfolding step lostSince
     most =
-        step-bounded a (record { last = option.none; inStep = inStep; held = heldOf first held }) (record { count = 0; pointer = pointer; octets = xs })
+        step-bounded a (record { last = option.none; inStep = inStep; held = heldOf first held })
+        (record { count = 0; pointer = pointer; octets = xs })
         (f .sound) (f .heard .few) .packets
 
-    to-take : (on : Bool) (g n : ℕ) (h d : List ℕ) → n ≤ 1 → Begun h d → followed ≡ inStepIf on (feed a (holding (heldOf g h) [] n) d) → Taken n h d l
+    to-take : (on : Bool) (g n : ℕ) (h d : List ℕ) → n ≤ 1 → Begun h d → followed ≡ inStepIf on (feed a (holding (heldOf g h) [] n) d)
+        → Taken n h d l
     to-take on g n h d o b e = record {
       one = o;
       begun = b;
@@ -174,12 +186,22 @@ module _ (inStep : Bool) (first : ℕ) (held : List ℕ) (a pointer : ℕ) (xs :
           → from ≡ begunIn a g (length h) → followed ≡ inStepIf on (feed a (holding (heldOf g h) [] dr) d) → Given
       parts g h d o eh ed front back b s w =
           let e : take (length xs - at) (drop at xs) ≡ d = to-end xs at ∙ ed in
-          record { front = front; back = back; taken = rw (eh, e) (to-take on g dr h d o b w); number = g; begun = rw eh s; work = rw (eh, e) w }
+          record {
+            front = front;
+            back = back;
+            taken = rw (eh, e) (to-take on g dr h d o b w);
+            number = g;
+            begun = rw eh s;
+            work = rw
+                (eh, e) w;
+          }
 
-      pub parts-all : (inStep && fits held pointer xs) ≡ true → k ≡ length held → dr ≡ 0 → from ≡ begunIn a first (length held) → at ≡ 0 → on ≡ true
+      pub parts-all : (inStep && fits held pointer xs) ≡ true → k ≡ length held → dr ≡ 0 → from ≡ begunIn a first (length held) → at ≡ 0
+          → on ≡ true
           → Given
       parts-all e ek en ef ea es =
-          parts first held xs (omega arith) (take-all k held (omega arith)) (ap (λ (i : ℕ). drop i xs) ea) (omega arith) (omega arith) to-fit ef
+          parts first held xs (omega arith) (take-all k held (omega arith)) (ap (λ (i : ℕ). drop i xs) ea) (omega arith)
+          (omega arith) to-fit ef
           (rw (es, en) (is-on n e))
 
       module _ (e : (inStep && fits held pointer xs) ≡ false) (ek : k ≡ 0) (en : dr ≡ lost) (ef : from ≡ a) where
@@ -187,7 +209,12 @@ module _ (inStep : Bool) (first : ℕ) (held : List ℕ) (a pointer : ℕ) (xs :
         none : (d : List ℕ) → drop at xs ≡ d → at ≤ length xs → followed ≡ inStepIf on (feed a (holding nothing [] dr) d) → Given
         none d ed back w =
             parts 0 [] d (omega (arith, dropped-most inStep held xs)) (ap (λ (i : ℕ). take i held) ek) ed (omega arith) back
-            (record { unfinished = empty-unfinished; short = omega arith; few = omega (arith, length-drop at xs, ap length ed, f .heard .few) }) ef w
+            (record {
+              unfinished = empty-unfinished;
+              short = omega arith;
+              few = omega
+                  (arith, length-drop at xs, ap length ed, f .heard .few);
+            }) ef w
 
         pub parts-none : pointer ≡ 255 → at ≡ length xs → on ≡ false → Given
         parts-none p ea es = none [] (drop-of-length-le xs {i = at} (omega arith)) (omega arith) (rw (es, en) (is-skipped n e p))

@@ -5,7 +5,7 @@ use native.Mathlib.Numerals.{add-one}
 use native.Mathlib.Omega.{arith}
 use mathlib.Core.Path.{_≡_, refl, sym, ap, _∙_, subst}
 use mathlib.Core.Bool.{Bool, true, false, _||_}
-use mathlib.Core.List.{List, [], _∷_, _++_, map, append-assoc, append-nil}
+use mathlib.Core.List.{List, [], _∷_, _++_, map, append-nil}
 use lib.ListN.{length, take, drop, set, length-append, length-drop, length-map, drop-of-length-le}
 use lib.Dec.{ltb}
 use lib.Seq.{length-take-le, drop-drop, take-nil}
@@ -13,9 +13,11 @@ use Rattle.octets.specs.Parts.{written}
 use Rattle.rules.specs.Channel.{standing, unfinished, whole, wrong, lengthIn}
 use Rattle.rules.specs.Packets.{joined}
 use Rattle.rules.specs.Cutting.{Cut, cutOf, behind, header, firstsOf, firstBehind}
-use Rattle.rules.proofs.Bounds.{joined-append, sound-held}
+use Rattle.rules.proofs.Bounds.{sound-held}
+use Rattle.rules.proofs.Room.{joined-append}
 use Rattle.rules.proofs.Standing.{Order, upTo, past, order, standing-short, standing-part, standing-full}
-use Rattle.rules.proofs.Cutting.{header-less, header-more, Whole, whole-size, cuts-unfinished, cuts-wrong, cuts-whole, behind-none, behind-more}
+use Rattle.rules.proofs.Cutting.{header-less, header-more, Whole, whole-size}
+use Rattle.rules.proofs.Cuts.{cuts-unfinished, cuts-wrong, cuts-whole, behind-none, behind-more}
 use Rattle.session.specs.Asked.{Counted, Left}
 use Rattle.session.specs.Promised.{Cuts}
 use Rattle.session.proofs.Entries.{same-length, entered, length-firsts, firsts-more}
@@ -114,7 +116,8 @@ module _ (f a : ℕ) (held xs lengths₀ firsts₀ lengths firsts : List ℕ) (f
     going-room : (m : ℕ) → length (cutOf s .packets) ≤ m → packets < m
     going-room m h =
         let a : length (cutOf s .packets) ≡ length (g .done ++ take n (drop at s) ∷ []) + length (cutOf (drop (at + n) s) .packets) =
-        ap (λ (c : Cut). length (c .packets)) cut-more ∙ length-append (g .done ++ take n (drop at s) ∷ []) (cutOf (drop (at + n) s) .packets) in
+        ap (λ (c : Cut). length (c .packets)) cut-more ∙ length-append (g .done ++ take n (drop at s) ∷ [])
+        (cutOf (drop (at + n) s) .packets) in
         let b : length (g .done ++ take n (drop at s) ∷ []) ≡ length (g .done) + 1 = length-append (g .done) (take n (drop at s) ∷ []) in
         omega (arith, g .count)
 
@@ -124,7 +127,8 @@ module _ (f a : ℕ) (held xs lengths₀ firsts₀ lengths firsts : List ℕ) (f
         ∙ ap (λ (i : ℕ). set (written (map length (g .done)) lengths₀) i n) (sym sized)
         ∙ entered (map length (g .done)) lengths₀ n (omega (arith, sized))
         ∙ ap (λ (m : List ℕ). written m lengths₀)
-        (sym (map-append (g .done) (take n (drop at s)) ∙ ap (λ (k : ℕ). map length (g .done) ++ k ∷ []) (length-take-le n (drop at s) (size .there))))
+        (sym (map-append (g .done) (take n (drop at s)) ∙ ap (λ (k : ℕ). map length (g .done) ++ k ∷ [])
+        (length-take-le n (drop at s) (size .there))))
 
     next-first : packets < length firsts₀ → set firsts packets from ≡ written (firstsOf f a (packets + 1)) firsts₀
     next-first l =
@@ -155,9 +159,11 @@ module _ (f a : ℕ) (held xs lengths₀ firsts₀ lengths firsts : List ℕ) (f
     }
 
   -- where the packets end, what is left is held, or a wrong length drops it
-  stops : (b : Bool) (left : List ℕ) (kept m headers : ℕ) → cutOf (drop at s) ≡ record { inStep = b; held = left; packets = []; headers = m }
+  stops : (b : Bool) (left : List ℕ) (kept m headers : ℕ) → cutOf (drop at s) ≡ record
+      { inStep = b; held = left; packets = []; headers = m }
       → m ≤ 1 → headers ≡ packets + m → left ≡ drop kept s → Left held xs kept
-      → Cuts f a held xs (record { packets = packets; octets = at; kept = kept; first = from; headers = headers; instep = b }) lengths₀ firsts₀ lengths firsts
+      → Cuts f a held xs (record { packets = packets; octets = at; kept = kept; first = from; headers = headers; instep = b }) lengths₀
+      firsts₀ lengths firsts
   stops b left kept m headers h o n r l =
       let e : cutOf s ≡ record { inStep = b; held = left; packets = g .done; headers = length (g .done) + m } =
       g .cont ∙ ap (behind (g .done)) h ∙ simp append-nil in
@@ -179,7 +185,8 @@ module _ (f a : ℕ) (held xs lengths₀ firsts₀ lengths firsts : List ℕ) (f
   -- the same where the next packet is not whole, its header or not, or its length is wrong
   abbrev Held : ℕ → Type 0
   Held n =
-      Cuts f a held xs (record { packets = packets; octets = at; kept = at; first = from; headers = n; instep = true }) lengths₀ firsts₀ lengths firsts
+      Cuts f a held xs (record { packets = packets; octets = at; kept = at; first = from; headers = n; instep = true }) lengths₀ firsts₀
+      lengths firsts
 
   abbrev Dropped : Type 0
   Dropped =
@@ -187,14 +194,16 @@ module _ (f a : ℕ) (held xs lengths₀ firsts₀ lengths firsts : List ℕ) (f
       (record { packets = packets; octets = at; kept = length held + length xs; first = from; headers = packets + 1; instep = false })
       lengths₀ firsts₀ lengths firsts
 
-  going-unfinished : (m headers : ℕ) → header (length (drop at s)) ≡ m → m ≤ 1 → headers ≡ packets + m → standing (drop at s) ≡ unfinished → Held headers
+  going-unfinished : (m headers : ℕ) → header (length (drop at s)) ≡ m → m ≤ 1 → headers ≡ packets + m → standing (drop at s) ≡ unfinished
+      → Held headers
   going-unfinished m headers e o n u =
       stops true (drop at s) at (header (length (drop at s))) headers (cuts-unfinished (drop at s) u) (omega arith) (omega arith) refl
       (record { within = g .within; past = g .past; short = sound-held true (drop at s) u })
 
   going-wrong : standing (drop at s) ≡ wrong → Dropped
   going-wrong u =
-      let d : drop (length held + length xs) s ≡ [] = drop-of-length-le s {i = length held + length xs} (omega (arith, length-append held xs)) in
+      let d : drop (length held + length xs) s ≡ [] = drop-of-length-le s {i = length held + length xs}
+      (omega (arith, length-append held xs)) in
       stops false [] (length held + length xs) 1 (packets + 1) (cuts-wrong (drop at s) u) (omega arith) refl (sym d)
       (record { within = omega arith; past = λ h. absurd (omega arith); short = rw d (omega arith) })
 
@@ -219,8 +228,11 @@ module _ (f a : ℕ) (held xs lengths₀ firsts₀ lengths firsts : List ℕ) (f
           inside = omega arith;
           room = omega (arith, going-room w (length lengths₀) (k .entries), lengths-same);
           numbers = omega (arith, going-room w (length firsts₀) (k .numbers), firsts-same);
-          on = subst (λ (m : ℕ). Going f a held xs lengths₀ firsts₀ (set lengths packets m) (set firsts packets from) a (packets + 1) (at + m)) (sym e) (going-on w k);
+          on = subst (λ (m : ℕ). Going f a held xs lengths₀ firsts₀ (set lengths packets m) (set firsts packets from) a (packets + 1)
+              (at + m)) (sym e) (going-on w k);
         }
 
   pub stops-short : length held + length xs - at < 6 → Held packets
-  stops-short h = going-unfinished 0 packets (header-less (length (drop at s)) (omega (arith, ahead))) (omega arith) (omega arith) (standing-short (drop at s) (omega (arith, ahead)))
+  stops-short h =
+      going-unfinished 0 packets (header-less (length (drop at s)) (omega (arith, ahead))) (omega arith) (omega arith)
+      (standing-short (drop at s) (omega (arith, ahead)))

@@ -31,7 +31,8 @@ keeps count instep first a b {o₁} {o₂} l e₁ e₂ s =
     let z : length (replicate {A = ℕ} 250 0) ≡ 250 = length-replicate {A = ℕ} 250 0 in
     let e : o₂ ≡ written (a ++ b) (replicate 250 0) =
     after a b (replicate 250 0) (length a) (e₁ ∙ put-first a (replicate 250 0) (omega arith)) e₂ refl (omega arith) in
-    let f : o₂ ≡ (a ++ b) ++ replicate (250 - length (a ++ b)) 0 = e ∙ ap (λ (r : List ℕ). (a ++ b) ++ r) (drop-zeros 250 (length (a ++ b))) in
+    let f : o₂ ≡ (a ++ b) ++ replicate (250 - length (a ++ b)) 0 = e ∙ ap (λ (r : List ℕ). (a ++ b) ++ r)
+    (drop-zeros 250 (length (a ++ b))) in
     simp (f, length-append, s)
 
 module _ (d : List ℕ) (i : ℕ) where
@@ -63,5 +64,6 @@ module _ (held xs : List ℕ) (n : ℕ) (out : List ℕ) (p : Front held xs n ou
       → o₂ ≡ written (take n (held ++ xs)) out
   front-some l e₁ e₂ =
       let k : length (take (n - length held) xs) ≡ n - length held = length-take-le (n - length held) xs (front-part l) in
-      after held (take (n - length held) xs) out (length held) (e₁ ∙ put-first held out (omega (arith, p .room))) e₂ refl (omega (arith, p .room))
+      after held (take (n - length held) xs) out (length held) (e₁ ∙ put-first held out (omega (arith, p .room))) e₂ refl
+      (omega (arith, p .room))
       ∙ ap (λ (r : List ℕ). written r out) (take-past held xs n l)

@@ -61,7 +61,8 @@ all-sound [] i d h e = absurd (not-suc-le-zero h)
 all-sound (c ∷ l) zero d h e = or-left (channelUnsound c) (anyUnsound l) e
 all-sound (c ∷ l) (suc i) d h e = all-sound l i d (le-of-suc-le-suc h) (or-right (channelUnsound c) (anyUnsound l) e)
 
-pub sound-at : (s : Session) (i : ℕ) (d : Channel) → i < length (s .channels) → unsound s ≡ false → channelUnsound (getD (s .channels) i d) ≡ false
+pub sound-at : (s : Session) (i : ℕ) (d : Channel) → i < length (s .channels) → unsound s ≡ false → channelUnsound
+    (getD (s .channels) i d) ≡ false
 unfolding unsound
 sound-at s i d h e = all-sound (s .channels) i d h (or-right (ltb 8 (s .t)) (anyUnsound (s .channels)) e)
 

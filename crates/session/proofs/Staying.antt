@@ -19,7 +19,8 @@ use Rattle.frame.proofs.Accepts.{accepts}
 use Rattle.frame.proofs.Tells.{read-tells}
 use Rattle.rules.specs.Channel as rules
 use Rattle.rules.specs.Bounds.{Sound, Bounded}
-use Rattle.rules.proofs.Bounds.{fresh-sound, passing-sound, sound-passing, step-bounded}
+use Rattle.rules.proofs.Bounds.{fresh-sound, passing-sound, sound-passing}
+use Rattle.rules.proofs.Room.{step-bounded}
 use Rattle.session.specs.Channel.{heardOf, countOf, view, stored, fresh, channelUnsound, anyUnsound, unsound}
 use Rattle.session.specs.Lent.{Lent}
 use Rattle.session.specs.Open.{Opening, opened, opening}
@@ -106,7 +107,8 @@ counted-stays s o w = record { sound = w .sound; channels = w .channels }
 accepted-stays : (s : Session) (f : Frame) (d : List ℕ) → unsound s ≡ false → length d ≤ 251 → Stays s (accepted s f d)
 unfolding unsound accepted
 accepted-stays s f d u l =
-    let next = any-set (s .channels) (f .channel) (stored (ruled s f d .next)) (channels-pass s u) (stored-sound (ruled s f d .next) (ruled-bounded s f d u l .sound)) in
+    let next = any-set (s .channels) (f .channel) (stored (ruled s f d .next)) (channels-pass s u)
+    (stored-sound (ruled s f d .next) (ruled-bounded s f d u l .sound)) in
     record { sound = rw (or-left (ltb 8 (s .t)) (anyUnsound (s .channels)) u, next); channels = length-set (s .channels) (f .channel) _ }
 
 -- a frame that the reader accepts has at most 251 octets of data
@@ -122,13 +124,15 @@ heeded-stays s frame u =
 pub step-stays : (s : Session) (frame : List ℕ) (l : Lent) → unsound s ≡ false → Stays s (outcome s frame l)
 unfolding outcome
 step-stays s frame l u =
-    admitted-picks (Stays s) s l _ (λ a. counted-stays s _ (heeded-stays (counted s) frame (counted-sound s u))) (λ n e. refused-stays s n 0 u)
+    admitted-picks (Stays s) s l _ (λ a. counted-stays s _ (heeded-stays (counted s) frame (counted-sound s u)))
+    (λ n e. refused-stays s n 0 u)
 
 pub offer-stays : (s : Session) (x : Stretch) (l : Lent) → unsound s ≡ false → Stays s (offered s x l)
 unfolding turnedAway
 offer-stays s (found x) l u = step-stays s x l u
 offer-stays s (unread n) l u =
-    admitted-picks (Stays s) s l _ (λ a. counted-stays s _ (refused-stays (counted s) n 0 (counted-sound s u))) (λ m e. refused-stays s m 0 u)
+    admitted-picks (Stays s) s l _ (λ a. counted-stays s _ (refused-stays (counted s) n 0 (counted-sound s u)))
+    (λ m e. refused-stays s m 0 u)
 
 -- ---- the answer
 
@@ -139,7 +143,8 @@ Other o = o .answer .refusal ≡ no.session → ⊥
 heeded-other : (s : Session) (frame : List ℕ) → Other (heeded s frame (readFrame (s .t) frame))
 unfolding accepted
 heeded-other s frame =
-    picks Other (readFrame (s .t) frame .accepted) (accepted s _ _) (refusedAt s _ _) (λ a h. omega arith) (λ a. read-tells (s .t) frame .other)
+    picks Other (readFrame (s .t) frame .accepted) (accepted s _ _) (refusedAt s _ _) (λ a h. omega arith)
+    (λ a. read-tells (s .t) frame .other)
 
 pub sound-answers : (s : Session) (frame : List ℕ) (l : Lent) → unsound s ≡ false → Other (outcome s frame l)
 unfolding outcome

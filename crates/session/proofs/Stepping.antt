@@ -1,7 +1,7 @@
 -- What a step gives, from what its parts gave.
 use Prim.Native.Nat.{ℕ}
 use native.Mathlib.Omega.{arith}
-use mathlib.Core.Path.{_≡_, ap, _∙_, subst}
+use mathlib.Core.Path.{_≡_, sym, ap, _∙_, subst}
 use mathlib.Core.Bool.{true, false}
 use mathlib.Core.Logic.{⊎-elim}
 use mathlib.Core.List.{List}
@@ -19,28 +19,47 @@ use Rattle.session.specs.Channel.{view, channelUnsound}
 use Rattle.session.specs.Lent.{Lent, Enough}
 use Rattle.session.specs.Step.{Outcome, channelAt, pieceOf, ruled, accepted, heeded, Gives}
 use Rattle.session.specs.Asked.{Points, Asked}
-use Rattle.session.specs.Promised.{Heeds}
+use Rattle.session.specs.Promised.{headOf, headed, Heeds}
 use Rattle.session.specs.declared.Channel.{Channel}
 use Rattle.session.specs.declared.Session.{Session}
 use Rattle.session.specs.declared.Stepped.{Stepped}
 use Rattle.session.specs.declared.StepAnswer.the-variants as answer
+use Rattle.session.specs.declared.channels.Head.{Head}
 use Rattle.session.specs.declared.channels.Heeded.{Heeded}
 use Rattle.session.proofs.Admitting.{turnedDown, gives-refused}
 
 -- ---- an accepted frame
 
--- c is the frame's channel, wherever it was read from
+-- c is the frame's channel, wherever it was read from, and h the frame's head
 module _ (s : Session) (f : Frame) (xs : List ℕ) (master : Loss) (c : Channel) (ec : c ≡ channelAt s (f .channel))
-    (em : master ≡ lostSince (lastOf (s .heard) (s .master .0)) (f .master .0)) (r : Heeded) (l l′ : Lent)
-    (w : Heeds (step (s .arrival) (view c) (pieceOf f xs)) r l l′) where
+    (em : master ≡ lostSince (lastOf (s .heard) (s .master .0)) (f .master .0)) {h : Head} (eh : h ≡ headOf (s .arrival) f)
+    (r : Heeded) (l l′ : Lent) (w : Heeds (step (h .arrival) (view c) (headed h xs)) r l l′) where
   heeds : Heeds (ruled s f xs) r l l′
   unfolding ruled
-  heeds = subst (λ (x : Channel). Heeds (step (s .arrival) (view x) (pieceOf f xs)) r l l′) ec w
+  heeds =
+      subst (λ (x : Channel). Heeds (step (s .arrival) (view x) (pieceOf f xs)) r l l′) ec
+      (subst (λ (x : Head). Heeds (step (x .arrival) (view c) (headed x xs)) r l l′) eh w)
 
   pub gives-accepted : Gives (accepted s f xs)
       (record {
-        session = record { t = s .t; arrival = s .arrival; master = f .master; heard = true; channels = set (s .channels) (f .channel) (r .channel) };
-        answer = answer.Accepted (record { arrival = s .arrival; channel = f .channel; lost = r .lost; master = master; packets = r .packets; headers = r .headers });
+        session =
+            record {
+              t = s .t;
+              arrival = s .arrival;
+              master = f .master;
+              heard = true;
+              channels = set (s .channels) (f .channel)
+                  (r .channel);
+            };
+        answer = answer.Accepted (record {
+          arrival = s .arrival;
+          channel = f .channel;
+          lost = r .lost;
+          master = master;
+          packets =
+              r .packets;
+          headers = r .headers;
+        });
       })
       l l′
   unfolding accepted
@@ -56,11 +75,13 @@ pointed : {pointer n : ℕ} → PointerRight pointer n → Points pointer n
 pointed w a b = ⊎-elim (λ l. l) (λ v. ⊎-elim (λ e. absurd (b e)) (λ e. absurd (a (e .0))) v) w
 
 -- what is asked of the channel that takes an accepted frame
-pub asked : (t : ℕ) (frame : List ℕ) (l : Lent) → Enough l → (f : Frame) (xs : List ℕ) (c : Channel) → Accepted t frame f → xs ≡ dataOf f frame
-    → channelUnsound c ≡ false → Asked c (f .pointer) xs l
-asked t frame l k f xs c w e h =
+pub asked : (t : ℕ) (frame : List ℕ) (l : Lent) → Enough l → (f : Frame) {n : ℕ} {h : Head} → h ≡ headOf n f
+    → (xs : List ℕ) (c : Channel) → Accepted t frame f → xs ≡ dataOf f frame
+    → channelUnsound c ≡ false → Asked c (h .pointer) xs l
+asked t frame l k f eh xs c w e h =
     let n : length xs ≡ f .length = ap length e ∙ w .«data» in
-    record { sound = h; heard = record { few = omega (arith, n, w .few); points = rw n (pointed (w .pointer)); room = k } }
+    subst (λ (x : Head). Asked c (x .pointer) xs l) (sym eh)
+    (record { sound = h; heard = record { few = omega (arith, n, w .few); points = rw n (pointed (w .pointer)); room = k } })
 
 module _ (s : Session) (frame : List ℕ) (l : Lent) where
   abbrev told : Outcome

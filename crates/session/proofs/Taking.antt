@@ -9,7 +9,8 @@ use Rattle.octets.specs.Parts.{written}
 use Rattle.rules.specs.Channel.{heldOf, begunIn, cleared, Handed, Work, holding, feed}
 use Rattle.rules.specs.Packets.{bare, joined}
 use Rattle.rules.specs.Cutting.{Cut, cutBy, cutOf, after, header, firstsOf, firstBehind, Begins}
-use Rattle.rules.proofs.Cutting.{header-more, cuts-on, firsts-on}
+use Rattle.rules.proofs.Cutting.{header-more}
+use Rattle.rules.proofs.Cuts.{cuts-on, firsts-on}
 use Rattle.session.specs.Channel.{channelOf, stored}
 use Rattle.session.specs.Lent.{lent}
 use Rattle.session.specs.Asked.{Taken, Completed, Counted, Front}
@@ -20,7 +21,12 @@ use Rattle.session.proofs.Lending.{lent-same}
 
 module _ (n : ℕ) (held xs out lengths firsts : List ℕ) (t : Taken n held xs (lent out lengths firsts)) where
   pub to-cut : Counted held xs lengths firsts
-  to-cut = record { begun = t .begun; entries = omega (arith, t .most, t .room .lengths); numbers = omega (arith, t .most, t .room .firsts) }
+  to-cut = record {
+    begun = t .begun;
+    entries = omega (arith, t .most, t .room .lengths);
+    numbers = omega
+        (arith, t .most, t .room .firsts);
+  }
 
   module _ (f a : ℕ) (r : Found) (lengths′ firsts′ : List ℕ) (k : Cuts f a held xs r lengths firsts lengths′ firsts′) where
     pub few-packets : r .packets ≤ 16
@@ -31,7 +37,13 @@ module _ (n : ℕ) (held xs out lengths firsts : List ℕ) (t : Taken n held xs 
     to-complete = record {
       one = t .one;
       few = omega (arith, few-packets, k .few);
-      some = λ l. omega (arith, k .headers, header-more (length held) l, ap (λ (c : Cut). c .headers) (cuts-on a 0 (heldOf 0 held) xs (t .begun .unfinished)));
+      some = λ l. omega (
+        arith,
+        k .headers,
+        header-more (length held) l,
+        ap (λ (c : Cut). c .headers)
+            (cuts-on a 0 (heldOf 0 held) xs (t .begun .unfinished)),
+      );
     }
 
     pub few-headers : (m : ℕ) → header (length held) + m ≡ n + r .headers → m ≤ 255
@@ -45,7 +57,8 @@ module _ (n : ℕ) (held xs out lengths firsts : List ℕ) (t : Taken n held xs 
     }
 
     -- g is kept with what is held
-    module _ (g : ℕ) (begun : f ≡ begunIn a g (length held)) (count : ℕ) (b : Bool) (out′ : List ℕ) (o : out′ ≡ written (take (r .octets) (held ++ xs)) out) where
+    module _ (g : ℕ) (begun : f ≡ begunIn a g (length held)) (count : ℕ) (b : Bool) (out′ : List ℕ)
+        (o : out′ ≡ written (take (r .octets) (held ++ xs)) out) where
       abbrev work : Work
       work = feed a (holding (heldOf g held) [] n) xs
 
@@ -78,8 +91,10 @@ module _ (n : ℕ) (held xs out lengths firsts : List ℕ) (t : Taken n held xs 
       counts : (m : ℕ) → header (length held) + m ≡ n + r .headers → m ≡ work .headers
       counts m e = omega (arith, e, k .headers, ap (λ (c : Cut). c .headers) same)
 
-      pub takes : (x : Channel) (m : ℕ) → header (length held) + m ≡ n + r .headers → x ≡ stored (channelOf count (b && r .instep) (cleared (heldOf (r .first) (drop (r .kept) (held ++ xs)))))
-          → Follows count (inStepIf b work) (record { channel = x; packets = r .packets; headers = m }) (lent out lengths firsts) (lent out′ lengths′ firsts′)
+      pub takes : (x : Channel) (m : ℕ) → header (length held) + m ≡ n + r .headers → x ≡ stored
+          (channelOf count (b && r .instep) (cleared (heldOf (r .first) (drop (r .kept) (held ++ xs)))))
+          → Follows count (inStepIf b work) (record { channel = x; packets = r .packets; headers = m }) (lent out lengths firsts)
+          (lent out′ lengths′ firsts′)
       takes x m c e = record {
         channel =
             e
@@ -90,5 +105,6 @@ module _ (n : ℕ) (held xs out lengths firsts : List ℕ) (t : Taken n held xs 
         leaves = lent-same
             (o ∙ ap (λ (l : List ℕ). written l out) (sym (ap joined packets ∙ k .front)))
             (k .lengths ∙ ap (λ (l : List (List ℕ)). written (map length l) lengths) (sym packets))
-            (k .firsts ∙ ap (λ (n : ℕ). written (firstsOf f a n) firsts) number ∙ ap (λ (l : List ℕ). written l firsts) (sym (begins .packets)));
+            (k .firsts ∙ ap (λ (n : ℕ). written (firstsOf f a n) firsts) number ∙ ap (λ (l : List ℕ). written l firsts)
+            (sym (begins .packets)));
       }

@@ -16,7 +16,8 @@ pub open-fixed : Fixes kopen.ps kopen.r ropen.Post (λ κs x s. x)
 open-fixed κs a x y s t p q = one-opened p q
 
 -- the result, and what was lent afterwards
-pub step-fixed : Fixes kstep.ps kstep.r {A = Stepped × Lent} rstep.Post (λ κs x s. (x, lent (now (s .1 .1 .0)) (now (s .1 .1 .1 .0)) (now (s .1 .1 .1 .1 .0))))
+pub step-fixed : Fixes kstep.ps kstep.r {A = Stepped × Lent} rstep.Post
+    (λ κs x s. (x, lent (now (s .1 .1 .0)) (now (s .1 .1 .1 .0)) (now (s .1 .1 .1 .1 .0))))
 step-fixed κs a x y s t p q = one-stepped p q
 
 pub turn-away-fixed : Fixes kturn.ps kturn.r rturn.Post (λ κs x s. x)

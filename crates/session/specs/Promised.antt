@@ -5,6 +5,7 @@ use mathlib.Core.List.{List, [], _++_, map}
 use mathlib.Core.Bool.{Bool, _&&_}
 use lib.ListN.{length, take, drop}
 use Rattle.octets.specs.Parts.{written}
+use Rattle.frame.specs.declared.Frame.{Frame}
 use Rattle.rules.specs.Channel.{Piece, heldOf, begunIn, cleared, holding, feed, Work, Answer}
 use Rattle.rules.specs.Packets.{joined}
 use Rattle.rules.specs.Cutting.{cutOf, firstsOf, firstBehind}
@@ -49,6 +50,10 @@ abbrev pub Takes : Head → Bool → ℕ → ℕ → List ℕ → List ℕ → F
 Takes head b dropped first held xs r l l′ =
     (g : ℕ) → first ≡ begunIn (head .arrival) g (length held)
     → Follows (head .count .0) (inStepIf b (feed (head .arrival) (holding (heldOf g held) [] dropped) xs)) r l l′
+
+-- What of a frame with that arrival number the rules read beside its data.
+abbrev pub headOf : ℕ → Frame → Head
+headOf arrival f = record { arrival = arrival; count = f .count; pointer = f .pointer }
 
 -- What of a frame the rules read, by its head and its data.
 abbrev pub headed : Head → List ℕ → Piece

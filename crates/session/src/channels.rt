@@ -7,7 +7,7 @@ ghost use Rattle.rules.specs.Channel.{heldOf, cleared, follow, step};
 ghost use Rattle.session.specs.Channel.{view, channelOf, stored, fresh, channelUnsound};
 ghost use Rattle.session.specs.Lent.{lent};
 ghost use Rattle.session.specs.Asked.{Asked, Followable, Left, Taken};
-ghost use Rattle.session.specs.Promised.{headed, Takes, Follows, Heeds};
+ghost use Rattle.session.specs.Promised.{headOf, headed, Takes, Follows, Heeds};
 use super::Channel;
 use super::cutting;
 use counts::ChannelCount;
@@ -20,6 +20,20 @@ pub(crate) struct Head {
     pub arrival: u32,
     pub count: ChannelCount,
     pub pointer: u8,
+}
+
+impl Head {
+    // What the rules read of a frame with that arrival number.
+    pub(crate) fn of(arrival: u32, f: Frame) -> Head
+        ensures { λ r. ⌜ r ≡ headOf arrival f ⌝ }
+    {
+        let count = f.count;
+        Head {
+            arrival,
+            count,
+            pointer: f.pointer,
+        }
+    }
 }
 
 // A channel after a frame, how many were lost before it, how many packets were handed out and how many headers completed.
@@ -75,7 +89,7 @@ impl Channel {
         (whole < Packet::LEAST) | (Packet::GREATEST < whole) | (whole <= n)
     }
 
-    // The channel that holds front and then back, begun in the frame first, with zeros behind them; with nothing held, first is 0.
+    // The channel that holds `front ++ back` with zeros behind them; `first` is the frame in which they began, 0 if nothing is held.
     fn holding(count: ChannelCount, instep: bool, first: u32, front: &[u8], back: &[u8]) -> Channel
         requires { ⌜ length (now front) + length (now back) ≤ 250 ⌝ }
         ensures { λ r. ⌜ r ≡ stored (channelOf (count .0) instep (cleared (heldOf first (now (front .entry) ++ now (back .entry))))) ⌝ }
@@ -96,7 +110,7 @@ impl Channel {
         }
     }
 
-    // The channel that holds what is behind the first n octets of held and data end to end, begun in the frame first.
+    // The channel that holds what follows the first n octets of `held ++ data`; `first` is the frame in which that began.
     fn left(
         count: ChannelCount,
         instep: bool,
@@ -162,7 +176,7 @@ impl Channel {
     }
 }
 
-// Rules 2 to 5, for a channel with these held octets, begun in the frame first.
+// Rules 2 to 5 for a channel that holds `held`; `first` is the frame in which that began.
 fn follow(
     head: Head,
     instep: bool,

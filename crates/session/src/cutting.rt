@@ -110,8 +110,8 @@ pub(crate) fn completed(dropped: usize, found: usize, held: usize) -> usize
     dropped + found - 1
 }
 
-// The packets that held, begun in the frame first, and data, of the frame arrival, end to end begin with; their lengths and first
-// numbers are at the start of lengths and firsts.
+// Cuts packets from `held ++ data`. `first` is the arrival number of the frame in which `held` began, `arrival` that of the frame with
+// `data`. The packets' lengths and first numbers are left at the start of `lengths` and `firsts`.
 pub(crate) fn cut(
     first: u32,
     arrival: u32,

@@ -3,7 +3,7 @@ ghost use mathlib.Core.Path.{_≡_};
 ghost use Rattle.session.specs.Channel.{unsound};
 ghost use Rattle.session.specs.Open.{opened, Opens};
 ghost use Rattle.session.specs.Lent.{lent, scant};
-ghost use Rattle.session.specs.Step.{Steps, TurnsAway};
+ghost use Rattle.session.specs.Step.{barred, Steps, TurnsAway};
 use answer::Refusal;
 use channels::Head;
 use counts::ChannelCount;
@@ -134,6 +134,22 @@ impl Session {
         false
     }
 
+    // The first of refusals 1, 4 and 3 that holds; 0 if none does.
+    fn barred(self, octets: &[u8], lengths: &[u16], firsts: &[u32]) -> u16
+        ensures { λ r. ⌜ r ≡ barred self (lent (now (octets .entry)) (now (lengths .entry)) (now (firsts .entry))) ⌝ }
+    {
+        if scant(octets, lengths, firsts) {
+            return answer::ROOM;
+        }
+        if self.unsound() {
+            return answer::SESSION;
+        }
+        if self.arrival == Session::LAST {
+            return answer::ARRIVALS;
+        }
+        0
+    }
+
     // The session after a frame is offered; the packets that it completes are end to end at the start of octets, their lengths at the
     // start of lengths, and the arrival numbers of the frames with their first octets at the start of firsts. Else the first refusal
     // of 1, 4, 3 and the frame's (10, 11, 120 to 123, 13 to 15), which use up an arrival number and tell the frame's octet. What is
@@ -150,12 +166,9 @@ impl Session {
             (lent (now (octets .exit)) (now (lengths .exit)) (now (firsts .exit))) ⌝ }
     {
         let answer;
-        if scant(octets, lengths, firsts) {
-            answer = StepAnswer::Refused(Refusal::plain(answer::ROOM));
-        } else if self.unsound() {
-            answer = StepAnswer::Refused(Refusal::plain(answer::SESSION));
-        } else if self.arrival == Session::LAST {
-            answer = StepAnswer::Refused(Refusal::plain(answer::ARRIVALS));
+        let bar = self.barred(octets, lengths, firsts);
+        if bar != 0 {
+            answer = StepAnswer::Refused(Refusal::plain(bar));
         } else {
             self.arrival += 1;
             match Frame::read(self.t, frame) {
@@ -164,12 +177,7 @@ impl Session {
                 }
                 FrameRead::Frame(f) => {
                     let i = f.channel as usize;
-                    let count = f.count;
-                    let head = Head {
-                        arrival: self.arrival,
-                        count,
-                        pointer: f.pointer,
-                    };
+                    let head = Head::of(self.arrival, f);
                     let heeded = self.channels[i]
                         .heed(head, f.data(frame), octets, lengths, firsts);
                     let channel = heeded.channel;
@@ -205,12 +213,9 @@ impl Session {
             (lent (now (octets .entry)) (now (lengths .entry)) (now (firsts .entry))) ⌝ }
     {
         let answer;
-        if scant(octets, lengths, firsts) {
-            answer = StepAnswer::Refused(Refusal::plain(answer::ROOM));
-        } else if self.unsound() {
-            answer = StepAnswer::Refused(Refusal::plain(answer::SESSION));
-        } else if self.arrival == Session::LAST {
-            answer = StepAnswer::Refused(Refusal::plain(answer::ARRIVALS));
+        let bar = self.barred(octets, lengths, firsts);
+        if bar != 0 {
+            answer = StepAnswer::Refused(Refusal::plain(bar));
         } else {
             self.arrival = self.arrival + 1;
             answer = StepAnswer::Refused(Refusal::plain(own));

@@ -7,9 +7,6 @@ use borrow.Author.Needs.{needs}
 use Rattle.kiss.proofs.Sealing.{seals-none, seals-one, seals-both}
 use Rattle.kiss.proofs.seal.Statement.{statement}
 use Rattle.kiss.proofs.seal.Tie as tie
-use Rattle.kiss.proofs.seal.Reads as reads
-use Rattle.kiss.proofs.seal.Lts as lts
-use Rattle.crc.proofs.frame_check.Reads as frame-check-reads
 
 slice-aggregate-frame-check : tie.Need-slice-aggregate-frame-check
 slice-aggregate-frame-check c = sym (length-take-le _ _ (search needs))
@@ -30,5 +27,7 @@ pub seal-spec : {M : Type 1} → statement M
 seal-spec =
     tie.close
     (tie.spec
-    (λ c. search needs) slice-aggregate-frame-check (λ c κs. search needs) (λ c. search needs) returns (λ c. search needs) (λ c. search needs)
-    (λ c. search needs) (λ c. search needs) returns-2 (λ c. search needs) slice-write-kept-2 (λ c. search needs) (λ c. search needs) returns-3)
+    (λ c. search needs) slice-aggregate-frame-check (λ c κs. search needs) (λ c. search needs) returns (λ c. search needs)
+    (λ c. search needs)
+    (λ c. search needs) (λ c. search needs) returns-2 (λ c. search needs) slice-write-kept-2 (λ c. search needs)
+    (λ c. search needs) returns-3)

@@ -5,7 +5,11 @@ use Rattle.listing.proofs.end.Statement.{statement}
 use Rattle.listing.proofs.end.Tie as tie
 
 returns : tie.Need-returns
-returns c = told-bad (c .before .before .before .before .before .before .before .args .source) (c .before .before .before .before .before .cut .ensures) (c .before .before .before .before .if1 .taken) (c .before .before .bad-line .ensures)
+returns c =
+    let c4 = c .before .before .before .before in
+    let c5 = c4 .before in
+    let c7 = c5 .before .before in
+    told-bad (c7 .args .source) (c5 .cut .ensures) (c4 .if1 .taken) (c .before .before .bad-line .ensures)
 
 returns-2 : tie.Need-returns-2
 returns-2 c = told-none (c .before .before .before .args .source) (c .before .cut .ensures) (c .if1 .left)

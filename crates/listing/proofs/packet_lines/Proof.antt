@@ -54,20 +54,28 @@ loop-again c =
     let l = turn c .loop in
     let p = c .before .before .packet-line in
     let inside : l .i < length (now (a .lengths)) = search needs in
-    let numbers : l .i < length (now (a .firsts)) = search needs in
-    (p .kept .0 ∙ l .inv .0, search needs, ap (λ (k : ℕ). k + getD (now (a .lengths)) (l .i) 0) (l .inv .2) ∙ sym (next-from (now (a .lengths)) (l .i) inside), one-packet-more (now (a .lengths)) (l .i) inside (a .arrival) (now (a .octets)) (now (a .firsts)) (c .before .before .before .before .read .result) (search needs) numbers (l .inv .2) (ends c) (c .before .before .before .before .read .ensures ∙ ap readPacket (c .before .before .before .before .before .part .ensures)) (l .inv .3) (omega (arith, l .inv .0, l .inv .3 .near)) (p .ensures))
+    let numbers : l .i < length (now (a .firsts)) = search needs in (
+      p .kept .0 ∙ l .inv .0,
+      search needs,
+      ap (λ (k : ℕ). k + getD (now (a .lengths)) (l .i) 0) (l .inv .2) ∙ sym (next-from (now (a .lengths)) (l .i) inside),
+      one-packet-more (now (a .lengths)) (l .i) inside (a .arrival) (now (a .octets)) (now (a .firsts))
+          (c .before .before .before .before .read .result) (search needs) numbers (l .inv .2) (ends c)
+          (c .before .before .before .before .read .ensures ∙ ap readPacket (c .before .before .before .before .before .part .ensures))
+          (l .inv .3) (omega (arith, l .inv .0, l .inv .3 .near)) (p .ensures),
+    )
 
 returns : tie.Need-returns Inv-loop μ-loop
 returns c =
     let l = c .before .loop in
     let a = start (c .before) .args in
     let all : l .i ≡ a .packets = omega arith in
-    resaid (ap (λ (k : ℕ). packetsText (cut (a .arrival) (now (a .octets)) (take k (now (a .lengths))) (now (a .firsts)))) all) (omega arith) (l .inv .3)
+    resaid (ap (λ (k : ℕ). packetsText (cut (a .arrival) (now (a .octets)) (take k (now (a .lengths))) (now (a .firsts)))) all)
+    (omega arith) (l .inv .3)
 
 pub packet-lines-spec : {M : Type 1} → statement M
 packet-lines-spec =
     tie.close
     (tie.spec
-    Inv-loop μ-loop loop-holds (λ c. search needs) (λ c. search needs) (λ c. search needs) (λ c. search needs) cast-part (λ c κs. search needs)
-    (λ c κs. search needs) (λ c κs. search needs) (λ c. omega (arith, small c)) (λ c. omega (arith, ends c, turn c .loop .inv .2)) (λ c. search needs)
-    (λ c. search needs) loop-again (λ c. search needs) returns)
+    Inv-loop μ-loop loop-holds (λ c. search needs) (λ c. search needs) (λ c. search needs) (λ c. search needs) cast-part
+    (λ c κs. search needs) (λ c κs. search needs) (λ c κs. search needs) (λ c. omega (arith, small c))
+    (λ c. omega (arith, ends c, turn c .loop .inv .2)) (λ c. search needs) (λ c. search needs) loop-again (λ c. search needs) returns)

@@ -12,7 +12,9 @@ use Rattle.session.proofs.Channel.heed.Statement.{statement}
 use Rattle.session.proofs.Channel.heed.Tie as tie
 
 abbrev start : tie.Joined1 → tie.Start
-start c = c .before .before .before .before .before .before .before .before .before .before .before
+start c =
+    let c11 = c .before .before .before .before .before .before .before .before .before .before .before in
+    c11
 
 -- what rules 2 to 5 go on from, whether frames were lost or not
 carried : (c : tie.Joined1) → Carries (start c .args .self) (number (c .before .before .before .lost .result)) (c .if1 .k) (c .if1 .instep)
@@ -27,16 +29,24 @@ carried c =
 
 returns : tie.Need-returns
 returns c =
-    let j = c .before .before .before .before .before .before .before .before .before .before .before .before in
+    let c7 = c .before .before .before .before .before .before .before in
+    let j = c7 .before .before .before .before .before in
     let a = start j .args in
-    let f = c .before .before .before .before .before .before .before .follow in
-    steps (a .self) (j .before .before .before .lost .result) (j .if1 .k) (j .if1 .instep) (carried j) (a .head) (a .«data» .now) (f .result)
-    (lent (a .octets .now) (a .lengths .now) (a .firsts .now)) (lent (f .last .1 .1 .1 .1 .1 .0) (f .last .1 .1 .1 .1 .1 .1 .0) (f .last .1 .1 .1 .1 .1 .1 .1 .0))
+    let f = c7 .follow in
+    steps (a .self) (j .before .before .before .lost .result) (j .if1 .k) (j .if1 .instep) (carried j) (a .head) (a .«data» .now)
+    (f .result)
+    (lent (a .octets .now) (a .lengths .now) (a .firsts .now))
+    (lent (f .last .1 .1 .1 .1 .1 .0) (f .last .1 .1 .1 .1 .1 .1 .0) (f .last .1 .1 .1 .1 .1 .1 .1 .0))
     (j .before .before .before .lost .ensures) (f .ensures)
 
 pub heed-spec : {M : Type 1} → statement M
 heed-spec =
     tie.close
     (tie.spec
-    (λ c κs. search needs) (λ c. search needs) (λ c κs. search needs) (λ c. carried c .within) (λ c. sym (length-take-le _ _ (carried (c .before) .within)))
-    (λ c κs. record { sound = carried (c .before .before .before .before) .sound; heard = start (c .before .before .before .before) .pre .heard }) (λ c. search needs) (λ c. search needs) (λ c. search needs) returns)
+    (λ c κs. search needs) (λ c. search needs) (λ c κs. search needs) (λ c. carried c .within)
+    (λ c. sym (length-take-le _ _ (carried (c .before) .within)))
+    (λ c κs. record {
+      sound = carried (c .before .before .before .before) .sound;
+      heard = start
+          (c .before .before .before .before) .pre .heard;
+    }) (λ c. search needs) (λ c. search needs) (λ c. search needs) returns)

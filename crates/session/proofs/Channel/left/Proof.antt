@@ -18,13 +18,18 @@ holding-requires : tie.Need-holding-requires
 holding-requires c κs = left-all-short _ _ _ (c .before .before .before .pre) (c .if1 .taken)
 
 returns : tie.Need-returns
-returns c = c .holding .ensures ∙ ap (with (c .before .before .before .before)) (left-all _ _ _ (c .before .before .before .before .pre) (c .before .if1 .taken))
+returns c =
+    let c4 = c .before .before .before .before in
+    c .holding .ensures ∙ ap (with c4) (left-all _ _ _ (c4 .pre) (c .before .if1 .taken))
 
 holding-requires-2 : tie.Need-holding-requires-2
 holding-requires-2 c κs = left-some-short _ _ _ (c .before .before .before .before .before .pre) (c .before .before .if1 .left)
 
 returns-2 : tie.Need-returns-2
-returns-2 c = c .holding2 .ensures ∙ ap (with (c .before .before .before .before .before .before)) (left-some _ _ _ (c .before .before .before .before .before .before .pre) (c .before .before .before .if1 .left))
+returns-2 c =
+    let c3 = c .before .before .before in
+    let c6 = c3 .before .before .before in
+    c .holding2 .ensures ∙ ap (with c6) (left-some _ _ _ (c6 .pre) (c3 .if1 .left))
 
 pub left-spec : {M : Type 1} → statement M
 left-spec =

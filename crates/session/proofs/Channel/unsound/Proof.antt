@@ -15,11 +15,16 @@ returns-3 : tie.Need-returns-3
 returns-3 c = sym (few-right _ _ _ (c .before .before .if1 .left) (c .before .if2 .left) (c .if3 .taken))
 
 returns-4 : tie.Need-returns-4
-returns-4 c = rw (c .word .ensures) (sym (length-wrong _ _ _ (c .before .before .before .before .before .if1 .left) (c .before .before .before .before .if2 .left) (c .before .before .before .if3 .left)))
+returns-4 c =
+    let c3 = c .before .before .before in
+    let c4 = c3 .before in
+    let c5 = c4 .before in
+    rw (c .word .ensures) (sym (length-wrong _ _ _ (c5 .if1 .left) (c4 .if2 .left) (c3 .if3 .left)))
 
 pub unsound-spec : {M : Type 1} → statement M
 unsound-spec =
     tie.close
     (tie.spec
-    (λ c. search needs) returns returns-2 returns-3 (λ c. search needs) (λ c. search needs) (λ c κs. search needs) (λ c. search needs) (λ c. search needs)
+    (λ c. search needs) returns returns-2 returns-3 (λ c. search needs) (λ c. search needs) (λ c κs. search needs) (λ c. search needs)
+    (λ c. search needs)
     returns-4)

@@ -23,15 +23,22 @@ loop-holds c = (search needs, unsound-channels (c .before .args .t1) (c .if1 .le
 
 returns-2 : tie.Need-returns-2 Inv-loop μ-loop
 returns-2 c =
-    let s = c .before .before .before .before .before .before .args .t1 in
+    let c4 = c .before .before .before .before in
+    let c6 = c4 .before .before in
+    let s = c6 .args .t1 in
     let n : length (s .channels) ≡ 8 = search (needs, length-mapped) in
-    sym (c .before .before .before .before .loop .inv .1 ∙ any-here (s .channels) (c .before .before .before .before .loop .i) _ (omega arith) (sym (c .before .unsound .ensures) ∙ c .if2 .taken))
+    sym (c4 .loop .inv .1 ∙ any-here (s .channels) (c4 .loop .i) _ (omega arith) (sym (c .before .unsound .ensures) ∙ c .if2 .taken))
 
 loop-again : tie.Need-loop-again Inv-loop μ-loop
 loop-again c =
-    let s = c .before .before .before .before .before .before .args .t1 in
-    let n : length (s .channels) ≡ 8 = search (needs, length-mapped) in
-    (search needs, c .before .before .before .before .loop .inv .1 ∙ any-next (s .channels) (c .before .before .before .before .loop .i) _ (omega arith) (sym (c .before .unsound .ensures) ∙ c .if2 .left))
+    let c4 = c .before .before .before .before in
+    let c6 = c4 .before .before in
+    let s = c6 .args .t1 in
+    let n : length (s .channels) ≡ 8 = search (needs, length-mapped) in (
+      search needs,
+      c4 .loop .inv .1 ∙ any-next (s .channels) (c4 .loop .i) _ (omega arith)
+          (sym (c .before .unsound .ensures) ∙ c .if2 .left),
+    )
 
 returns-3 : tie.Need-returns-3 Inv-loop μ-loop
 returns-3 c =

@@ -18,5 +18,6 @@ pub completed-spec : {M : Type 1} → statement M
 completed-spec =
     tie.close
     (tie.spec
-    (λ c. omega (arith, c .before .pre .one, c .before .pre .few)) returns (λ c. omega (arith, c .before .pre .one, c .before .pre .few)) sub-result
+    (λ c. omega (arith, c .before .pre .one, c .before .pre .few)) returns
+    (λ c. omega (arith, c .before .pre .one, c .before .pre .few)) sub-result
     returns-2)

@@ -38,20 +38,26 @@ returns c =
 
 returns-2 : tie.Need-returns-2 Inv-loop μ-loop
 returns-2 c =
+    let c4 = c .before .before .before .before in
     let n = c .before .before .length-at in
-    stops-part _ _ _ _ _ _ _ _ _ _ _ (c .before .before .before .before .loop .inv) (n .result) (n .ensures) (search needs) (within (n .result) (c .before .if1 .left)) (c .if2 .taken)
+    stops-part _ _ _ _ _ _ _ _ _ _ _ (c4 .loop .inv) (n .result) (n .ensures) (search needs) (within (n .result) (c .before .if1 .left))
+    (c .if2 .taken)
 
 -- what a turn knows
 abbrev Turns : tie.Else2 Inv-loop μ-loop → Type 0
 Turns c =
-    let a = start (c .before .before .before .before) .args in
-    let l = c .before .before .before .before .loop in
-    Turn (a .first) (a .arrival) (a .held .now) (a .«data» .now) (a .lengths .now) (a .firsts .now) (l .lengths) (l .firsts) (l .from) (l .packets) (l .at) (c .before .before .length-at .result)
+    let c4 = c .before .before .before .before in
+    let a = start c4 .args in
+    let l = c4 .loop in
+    Turn (a .first) (a .arrival) (a .held .now) (a .«data» .now) (a .lengths .now) (a .firsts .now) (l .lengths) (l .firsts) (l .from)
+    (l .packets) (l .at) (c .before .before .length-at .result)
 
 turns : (c : tie.Else2 Inv-loop μ-loop) → Turns c
 turns c =
+    let c4 = c .before .before .before .before in
     let n = c .before .before .length-at in
-    turn _ _ _ _ _ _ _ _ _ _ _ (c .before .before .before .before .loop .inv) (n .result) (n .ensures) (start (c .before .before .before .before) .pre) (within (n .result) (c .before .if1 .left)) (c .if2 .left)
+    turn _ _ _ _ _ _ _ _ _ _ _ (c4 .loop .inv) (n .result) (n .ensures) (start c4 .pre) (within (n .result) (c .before .if1 .left))
+    (c .if2 .left)
 
 returns-3 : tie.Need-returns-3 Inv-loop μ-loop
 returns-3 c = stops-short _ _ _ _ _ _ _ _ _ _ _ (c .before .loop .inv) (search needs)
@@ -61,8 +67,12 @@ cut-spec =
     tie.close
     (tie.spec
     Inv-loop μ-loop (λ c. search needs) loop-holds (λ c. c .loop .inv .within) (λ c κs. search needs)
-    (λ c. omega (arith, c .before .before .before .loop .inv .small)) (λ c. same (c .before .before .before)) (λ c. same-numbers (c .before .before .before)) returns (λ c. c .before .before .before .loop .inv .within)
-    (λ c. omega (arith, c .before .before .before .before .loop .inv .small)) (λ c. same (c .before .before .before .before)) (λ c. same-numbers (c .before .before .before .before)) returns-2
-    (λ c. omega (arith, turns c .greatest)) (λ c. omega (arith, turns c .room)) (λ c. turns c .room) (λ c. omega (arith, turns c .numbers)) (λ c. turns c .numbers)
-    (λ c. omega (arith, turns c .room)) (λ c. omega (arith, turns c .inside)) (λ c. omega (arith, turns c .inside, turns c .least)) (λ c. turns c .on)
+    (λ c. omega (arith, c .before .before .before .loop .inv .small)) (λ c. same (c .before .before .before))
+    (λ c. same-numbers (c .before .before .before)) returns (λ c. c .before .before .before .loop .inv .within)
+    (λ c. omega (arith, c .before .before .before .before .loop .inv .small)) (λ c. same (c .before .before .before .before))
+    (λ c. same-numbers (c .before .before .before .before)) returns-2
+    (λ c. omega (arith, turns c .greatest)) (λ c. omega (arith, turns c .room)) (λ c. turns c .room) (λ c. omega (arith, turns c .numbers))
+    (λ c. turns c .numbers)
+    (λ c. omega (arith, turns c .room)) (λ c. omega (arith, turns c .inside)) (λ c. omega (arith, turns c .inside, turns c .least))
+    (λ c. turns c .on)
     (λ c. same (c .before)) (λ c. same-numbers (c .before)) returns-3)

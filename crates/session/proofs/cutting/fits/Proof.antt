@@ -24,23 +24,30 @@ returns-3 c =
     (subst (λ (n : ℕ). allowed n ≡ false) (c .before .length-at .ensures) (outside (c .before .length-at .result) (c .if3 .taken)))
 
 -- the length is known and right
-known : (c : tie.Else3) → Within (lengthIn (c .before .before .before .before .before .before .args .held .now ++ c .before .before .before .before .before .before .args .«data» .now))
+known : (c : tie.Else3) → Within (lengthIn
+    (c .before .before .before .before .before .before .args .held .now ++
+    c .before .before .before .before .before .before .args .«data» .now))
 known c = subst Within (c .before .length-at .ensures) (within (c .before .length-at .result) (c .if3 .left))
 
 sub-points : tie.Need-sub-points
 sub-points c =
-    let a = c .before .before .before .before .before .before .args in
+    let c6 = c .before .before .before .before .before .before in
+    let a = c6 .args in
     let n = c .before .length-at .ensures in
-    let l = less-than-said (a .held .now) (a .«data» .now) (c .before .before .before .before .before .before .pre .unfinished) (known c .least) in
+    let l = less-than-said (a .held .now) (a .«data» .now) (c6 .pre .unfinished) (known c .least) in
     let g : length (a .held .now) ≤ c .before .length-at .result = omega (arith, n, l) in
     g
 
 returns-4 : tie.Need-returns-4
 returns-4 c =
-    let a = c .before .before .before .before .before .before .before .args in
+    let c3 = c .before .before .before in
+    let c4 = c3 .before in
+    let c7 = c4 .before .before .before in
+    let a = c7 .args in
     c .points3 .ensures
-    ∙ ap (λ (n : ℕ). eqb (a .pointer) (pointerTo (n - length (a .held .now)) (length (a .«data» .now)))) (c .before .before .length-at .ensures)
-    ∙ fits-known _ _ _ (c .before .before .before .before .if1 .left) (c .before .before .before .if2 .left) (known (c .before))
+    ∙ ap (λ (n : ℕ). eqb (a .pointer) (pointerTo (n - length (a .held .now)) (length (a .«data» .now))))
+    (c .before .before .length-at .ensures)
+    ∙ fits-known _ _ _ (c4 .if1 .left) (c3 .if2 .left) (known (c .before))
 
 pub fits-spec : {M : Type 1} → statement M
 fits-spec =
