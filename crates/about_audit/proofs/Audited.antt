@@ -1,8 +1,8 @@
 -- The session's run over the octets of an input, and what a table that passes claims of it.
 use Prim.Native.Nat.{ℕ}
 use native.Mathlib.Omega.{arith}
-use mathlib.Core.Path.{_≡_, refl, sym, ap, _∙_, subst}
-use mathlib.Core.Logic.{_⊎_, inl, inr}
+use mathlib.Core.Path.{_≡_, refl, sym, ap, _∙_}
+use mathlib.Core.Logic.{inl, inr}
 use mathlib.Core.List.{List, [], _∷_, _++_, map}
 use Rattle.answer.specs.Told.{Told}
 use Rattle.stretch.specs.Stretch.{Stretch, found}
@@ -20,10 +20,9 @@ use Rattle.session.specs.Open.{opening}
 use Rattle.session.specs.Lent.{Lent}
 use Rattle.session.specs.Step.{Outcome, told, Gives}
 use Rattle.session.specs.declared.Stepped.{Stepped}
-use Rattle.session.specs.Statements.{offered as offering}
 use Rattle.session.specs.declared.Session.{Session}
 use Rattle.session.specs.declared.Accepted.{Accepted}
-use Rattle.session.proofs.Few.{Few, offer-few}
+use Rattle.session.proofs.Few.{offer-few}
 use Rattle.receiver.specs.Run.{roomy, handedIn, toCome}
 use Rattle.receiver.specs.declared.Receiver.{Receiver}
 use Rattle.about_delivery.specs.Run.{readOut}
@@ -31,14 +30,14 @@ use Rattle.about_delivery.proofs.Calls.{read-back}
 use Rattle.about_delivery.proofs.Lending.{callsOf, calls-run, calls-room, calls-offer}
 use Rattle.table.specs.Table.{verdict}
 use Rattle.table.specs.Look.{illFormed}
-use Rattle.table.specs.declared.Verdict.{Verdict}
 use Rattle.table.specs.declared.Verdict.the-variants.{Passes, Faulty}
 use Rattle.about_table.specs.Trained.{handedOut}
 use Rattle.about_table.proofs.Trained.{never-before}
 use Rattle.audit_rows.specs.Right.{RightOf}
 use Rattle.audit_run.specs.Whole.{inputRead, rowsRead}
 use Rattle.audit_run.proofs.Whole.{tells-right}
-use Rattle.about_audit.specs.Audited.{offered, begins, Calls, NoneEarly, PassesNeverEarly}
+use Rattle.about_audit.specs.Audited.{offered, begins, Calls, PassesNeverEarly}
+use Rattle.session.specs.Statements.{offered as offering}
 
 -- ---- what a source tells: t first, then what is offered
 
@@ -53,7 +52,13 @@ each-found (f ∷ fs) = ap (λ (xs : List Item). offers (found f) ∷ xs) (each-
 
 recording-shape : (f : recording.Found) → Shape (ofRecording f .items)
 unfolding ofRecording
-recording-shape f = record { openings = f .t; stretches = map found (f .frames); cut = ap (λ (xs : List Item). map opens (f .t) ++ xs) (each-found (f .frames)) }
+recording-shape f =
+    record {
+      openings = f .t;
+      stretches = map found (f .frames);
+      cut = ap (λ (xs : List Item). map opens (f .t) ++ xs)
+          (each-found (f .frames));
+    }
 
 reader-shape : (r : Reader) (w : List ℕ) → Shape (foundBy r w .items)
 reader-shape reader.Settings w = recording-shape _

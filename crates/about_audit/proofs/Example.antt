@@ -1,19 +1,18 @@
 -- The example computes.
 use Prim.Native.Nat.{ℕ}
 use native.Mathlib.Omega.{arith}
-use mathlib.Core.Path.{_≡_, refl, sym}
+use mathlib.Core.Path.{refl, sym}
 use mathlib.Core.Bool.{true, false, true≢false}
 use mathlib.Core.List.{List, [], _∷_, _++_}
 use lib.ListN.{replicate}
 use Rattle.octets.specs.Parts.{put}
 use Rattle.octets.specs.Pick.{pick}
-use Rattle.session.specs.Lent.{Lent, Enough}
-use Rattle.kiss.specs.Reader.{scanned as kissScanned}
+use Rattle.session.specs.Lent.{Lent}
 use Rattle.source.specs.Scan.{scanned, keptBy, streamTaken}
 use Rattle.receiver.specs.Receive.{received}
 use Rattle.receiver.specs.declared.Received.{Received}
 use Rattle.receiver.specs.declared.Event.the-variants as event
-use Rattle.window.specs.Window.{Refills, unread}
+use Rattle.window.specs.Window.{Refills}
 use Rattle.window.specs.Turns.{none, more}
 use Rattle.window.specs.declared.Refilled.{Refilled}
 use Rattle.feed.specs.Pull.{fresh as freshFeed, atEnd}
@@ -22,18 +21,18 @@ use Rattle.feed.specs.declared.Pulled.{Pulled}
 use Rattle.table.specs.Table.{widthsWrong, badlyFormed}
 use Rattle.table.specs.Form.{known, grown, started}
 use Rattle.table.specs.Look.{ended}
-use Rattle.table.specs.declared.Form.{Form}
 use Rattle.table.specs.declared.Check.{Check}
 use Rattle.audit_form.specs.Reads.{brought, start}
-use Rattle.audit_form.specs.Reads.{place as formPlace, Place as FormPlace, Looped as ReadFirst}
+use Rattle.audit_form.specs.Reads.{place as formPlace, Looped as ReadFirst}
 use Rattle.audit_form.specs.declared.Reading.{Reading}
 use Rattle.audit_form.specs.declared.Formed.{Formed}
 use Rattle.audit_rows.specs.Goes.{fresh, stopped, having, dry, tells}
 use Rattle.audit_turns.specs.Turns.{begun}
 use Rattle.audit_turns.specs.declared.State.{State}
-use Rattle.audit_run.specs.Loop.{Place, place, Looped}
+use Rattle.audit_run.specs.Loop.{place, Looped}
 use Rattle.audit_run.specs.Told.{firstStatus}
 use Rattle.about_audit.specs.Example.{receiver, table, Example}
+use Rattle.kiss.specs.Reader.{scanned as kissScanned}
 
 -- ---- the first reading: 8 octets, then none
 

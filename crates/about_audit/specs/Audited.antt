@@ -1,4 +1,5 @@
--- Document 02, M-112, from the octets of a table and an input to the line that is written: if it says that the table passes, no row claims to
+-- Document 02, M-112, from the octets of a table and an input to the line that is written: if it says that the table passes, no row claims
+-- to
 -- know a reading before the frame that told it arrived.
 use Prim.Native.Nat.{ℕ}
 use mathlib.Core.Path.{_≡_}
@@ -28,7 +29,8 @@ begins s [] = s
 begins s (opens t ∷ xs) = begins (opening t 0 .session) xs
 begins s (offers x ∷ xs) = s
 
--- The session's run over the octets of an input: each call did what `Session::step` or `Session::turn_away` promises, with room enough, on all
+-- The session's run over the octets of an input: each call did what `Session::step` or `Session::turn_away` promises, with room enough, on
+-- all
 -- that the receiver's source finds in them; it hands out the packets that the octets make.
 pub record Calls (a : Receiver) (kept octets : List ℕ) : Type 0 where
   pub calls : List Call

@@ -80,7 +80,8 @@ one-shown : (n : ℕ) (row r : List Bool) → count row ≡ 1 → length row ≤
 one-shown n [] r w l h t z = suc-ne-zero 0 (sym w)
 one-shown zero (b ∷ row) r w l h t z = not-suc-le-zero l
 one-shown (suc n) (false ∷ row) r w l h t z =
-    one-shown n row (step r false) w (le-of-suc-le-suc l) (length-step r false h) (and-true-right (not (alone r)) (avoids n (step r false)) t) z
+    one-shown n row (step r false) w (le-of-suc-le-suc l) (length-step r false h)
+    (and-true-right (not (alone r)) (avoids n (step r false)) t) z
 one-shown (suc n) (true ∷ row) r w l h t z =
     false≢true
     (ap (λ (q : List Bool). not (alone q)) (sym (clears r h (run-none row (step r true) (suc-inj w) (length-step r true h) z)))
@@ -113,7 +114,8 @@ near-shown row h w z =
     let d : List Bool = drop (w .from) row in
     let b : List Bool = take 16 d in
     let none : count (drop 16 d) ≡ 0 = ap count (drop-drop 16 (w .from) row) ∙ w .behind in
-    let first : run Z (take (w .from) row) ≡ Z = ap (run Z) (count-none (take (w .from) row) (w .before)) ∙ run-zeros (length (take (w .from) row)) in
+    let first : run Z (take (w .from) row) ≡ Z = ap (run Z) (count-none (take (w .from) row) (w .before)) ∙ run-zeros
+    (length (take (w .from) row)) in
     let ran : run (run Z b) (drop 16 d) ≡ Z =
     sym (run-append Z b (drop 16 d)) ∙ ap (run Z) (take-append-drop 16 d)
     ∙ ap (λ (q : List Bool). run q d) (sym first) ∙ sym (run-append Z (take (w .from) row) d)

@@ -35,7 +35,8 @@ unfolding check
 same-register o m xs ys w e =
     sym (plus-twice (register o xs) m (length-register o xs ∙ sym w))
     ∙ ap (λ (r : List Bool). plus r m)
-    (sym (bits-number o 16 (plus (register o xs) m) (masked xs)) ∙ ap (bitsOf o 16) e ∙ bits-number o 16 (plus (register o ys) m) (masked ys))
+    (sym (bits-number o 16 (plus (register o xs) m) (masked xs)) ∙ ap (bitsOf o 16) e ∙ bits-number o 16 (plus (register o ys) m)
+    (masked ys))
     ∙ plus-twice (register o ys) m (length-register o ys ∙ sym w)
   where
     masked : (zs : List ℕ) → length (plus (register o zs) m) ≡ 16

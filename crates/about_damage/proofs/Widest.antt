@@ -2,7 +2,7 @@
 use Prim.Native.Nat.{ℕ, zero, suc, _+_, _%_, _<_}
 use native.Mathlib.Omega.{arith}
 use mathlib.Core.Path.{_≡_, refl, sym, ap, _∙_}
-use mathlib.Core.Bool.{Bool, true, false, _&&_}
+use mathlib.Core.Bool.{Bool, true, _&&_}
 use mathlib.Core.List.{List, [], _∷_, _++_}
 use lib.ListN.{length, take, drop}
 use lib.Seq.{drop-append-add, drop-append-seam}
@@ -22,7 +22,8 @@ use Rattle.about_damage.specs.Damage.{changes, count, Shown, Damaged}
 use Rattle.about_damage.specs.Damage.Shown.{oddly, two, near}
 use Rattle.about_damage.specs.Worth.{cOf}
 use Rattle.about_damage.specs.Unseen.{packet}
-use Rattle.about_damage.specs.Widest.{AnyOdd, AnyTwo, AnyOfSixteen, twoFarApart, threeFarApart, sixteenNeighbours, Refused21, WidestRefused}
+use Rattle.about_damage.specs.Widest.{AnyOdd, AnyTwo, AnyOfSixteen, twoFarApart, threeFarApart, sixteenNeighbours, Refused21}
+use Rattle.about_damage.specs.Widest.{WidestRefused}
 use Rattle.about_damage.proofs.Counts.{count-append}
 use Rattle.about_damage.proofs.Worth.{packet-worth}
 

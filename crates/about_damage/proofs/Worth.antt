@@ -63,7 +63,8 @@ module _ (was became : List ℕ) (d : Damaged highFirst was became) (l : Long wa
   refused true e =
       let same : cOf became ≡ cOf was = eqb-true _ _ e in
       let long : Long became =
-      record { least = omega (arith, l .least, d .same); greatest = omega (arith, l .greatest, d .same); c = omega (arith, l .c, d .same) } in
+      record { least = omega (arith, l .least, d .same); greatest = omega (arith, l .greatest, d .same); c = omega (arith, l .c, d .same) }
+      in
       sym
       (passed _ _ _ _ (right became long)
       (picked _ _ _ (test-shows highFirst (zeros 16) was became refl (omega (arith, l .greatest)) (omega (arith, l .least)) d h)))

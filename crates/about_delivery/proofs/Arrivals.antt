@@ -5,16 +5,16 @@ use mathlib.Core.List.{List, [], _∷_, _++_, map}
 use mathlib.Core.Bool.{Bool, true, false, cond}
 use native.Mathlib.Omega.{arith}
 use native.Mathlib.Nat.{div-eq-of-lt, div-eq-sub-div}
-use lib.ListN.{length, getD, take, drop, replicate, length-append, length-take, length-drop, length-replicate, getD-replicate, List·getD-append}
+use lib.ListN.{length, getD, take, drop, replicate, length-append, length-take, length-drop, length-replicate, getD-replicate}
+use lib.ListN.{List·getD-append}
 use lib.Seq.{getD-append-add}
 use lib.Dec.{eqb}
 use borrow.Author.Tests.{le-leb, ne-eqb, eq-eqb}
 use Rattle.rules.specs.Channel.{Piece, Handed}
 use Rattle.rules.specs.Packets.{joined}
 use Rattle.rules.proofs.Standing.{Order, upTo, past, order}
-use Rattle.stretch.specs.Stretch.{Stretch, found}
 use Rattle.sender.specs.Stream.{heads, firstFrom, Choice, raw, next, nextCount, framesBy}
-use Rattle.sender.specs.Sender.{Framed, sentOctets, when, ofChannel, pieceOf}
+use Rattle.sender.specs.Sender.{Framed, when, ofChannel, pieceOf}
 use Rattle.sender.specs.Frames.{framedFrom}
 use Rattle.sender.specs.Calls.{taken}
 use Rattle.sender.specs.declared.Common.{Common}
@@ -57,13 +57,15 @@ not-raw (false ∷ b) i h = not-raw b (suc i) (omega arith)
 abbrev portion : List (List ℕ) → ℕ → ℕ → ℕ → Piece
 portion ps o c n = record { count = c; pointer = firstFrom 0 (take n (drop o (heads ps))); octets = take n (drop o (joined ps)) }
 
-carried : (ps : List (List ℕ)) (o c n : ℕ) → length (take n (drop o (joined ps))) ≤ 251 → carries (portion ps o c n) ≡ length (take n (drop o (joined ps)))
+carried : (ps : List (List ℕ)) (o c n : ℕ) → length (take n (drop o (joined ps))) ≤ 251 → carries (portion ps o c n) ≡ length
+    (take n (drop o (joined ps)))
 carried ps o c n h =
     let same : length (take n (drop o (heads ps))) ≡ length (take n (drop o (joined ps))) =
     simp (length-take, length-drop) (omega (arith, heads-length ps)) in
     rw (not-raw (take n (drop o (heads ps))) 0 (omega arith))
 
-pub all-owned : (ps : List (List ℕ)) (ss : List Fate) (cs : List Choice) (o c k : ℕ) → map piece ss ≡ framesBy ps o c cs → AllShort (map piece ss)
+pub all-owned : (ps : List (List ℕ)) (ss : List Fate) (cs : List Choice) (o c k : ℕ) → map piece ss ≡ framesBy ps o c cs → AllShort
+    (map piece ss)
     → length (joined ps) - o ≤ taken cs → length (joined ps) - o ≤ length (owners k ss)
 all-owned ps [] [] o c k e s h = h
 all-owned ps [] (raw xs ∷ cs) o c k e s h = absurd (nil-cons e)
@@ -113,10 +115,12 @@ owners-stamps all [] k e = refl
 owners-stamps all (s ∷ ss) k e =
     map-append (stampIn all) (replicate (carries (piece s)) k) (owners (suc k) ss)
     ∙ ap (λ (l : List ℕ). l ++ map (stampIn all) (owners (suc k) ss))
-    (map-replicate (stampIn all) (carries (piece s)) k ∙ ap (λ (f : Fate). replicate (carries (piece s)) (arrivalOf f)) (drop-get all k s ss e))
+    (map-replicate (stampIn all) (carries (piece s)) k ∙ ap (λ (f : Fate). replicate (carries (piece s)) (arrivalOf f))
+    (drop-get all k s ss e))
     ∙ ap (λ (l : List ℕ). replicate (carries (piece s)) (arrivalOf s) ++ l) (owners-stamps all ss (suc k) (drop-suc all k s ss e))
 
-stamps-when : (b : Bool) (a : ℕ) (p : Piece) (ss : List Fate) → stamps (when b (got a p) ++ ss) ≡ cond b (replicate (carries p) a) [] ++ stamps ss
+stamps-when : (b : Bool) (a : ℕ) (p : Piece) (ss : List Fate) → stamps (when b (got a p) ++ ss) ≡ cond b
+    (replicate (carries p) a) [] ++ stamps ss
 unfolding stamps
 stamps-when true a p ss = refl
 stamps-when false a p ss = refl
@@ -157,7 +161,8 @@ expected-back ss g (p ∷ ps) own begun l =
     let j : ℕ = getD own (length p - 1) 0 in
     let ok : arrived ss (getD own 0 0) j ≡ true = got-drop (getD own 0 0) (take (suc j) ss) (got-take (suc j) ss g) in
     let first : getD (map (stampIn ss) own) 0 0 ≡ stampIn ss (getD own 0 0) = getD-map (stampIn ss) own 0 (omega (arith, begun .0)) in
-    let last : getD (map (stampIn ss) own) (length p - 1) 0 ≡ stampIn ss j = getD-map (stampIn ss) own (length p - 1) (omega (arith, begun .0)) in
+    let last : getD (map (stampIn ss) own) (length p - 1) 0 ≡ stampIn ss j = getD-map (stampIn ss) own (length p - 1)
+    (omega (arith, begun .0)) in
     let rest : expectedFrom ss ps (drop (length p) own) ≡ allBack ps (map (stampIn ss) (drop (length p) own)) =
     expected-back ss g ps (drop (length p) own) (begun .1) (omega (arith, length-drop (length p) own)) in
     rw (le-leb (length p) (length own) (omega arith), ok, first, last, drop-map (stampIn ss) (length p) own)

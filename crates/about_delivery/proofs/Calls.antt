@@ -83,5 +83,6 @@ module _ (v : ℕ) (s : Session) (f : Frame) (d : List ℕ) where
       → said v (accepted s f d .answer) (laid (accepted s f d .packets) l) ≡ when (eqb (f .channel) v) (report (s .arrival) (ruled s f d))
   unfolding accepted
   accepted-says l =
-      ap (λ (ps : List rules.Handed). when (eqb (f .channel) v) (record { arrival = s .arrival; lost = ruled s f d .lost; headers = ruled s f d .headers; packets = ps }))
+      ap (λ (ps : List rules.Handed). when (eqb (f .channel) v)
+      (record { arrival = s .arrival; lost = ruled s f d .lost; headers = ruled s f d .headers; packets = ps }))
       (read-back (s .arrival) _ (ruled s f d .packets) l (ruled-arrivals s f d) refl)

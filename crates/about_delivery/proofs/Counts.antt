@@ -31,7 +31,8 @@ eager d b h (got a f ∷ ss) =
 pub eager-losses : (d : Option ℕ) (b : Bool) (h : Held) (ss : List Fate) → losses (eager d b h ss) ≡ lossesAfter d ss
 eager-losses d b h [] = refl
 eager-losses d b h (lost f ∷ ss) = eager-losses (oneMore d) false nothing ss
-eager-losses d b h (got a f ∷ ss) = rw (eager-losses (some 0) (follow a b h (f .pointer) (f .octets) .inStep) (cleared (follow a b h (f .pointer) (f .octets) .held)) ss)
+eager-losses d b h (got a f ∷ ss) =
+    rw (eager-losses (some 0) (follow a b h (f .pointer) (f .octets) .inStep) (cleared (follow a b h (f .pointer) (f .octets) .held)) ss)
 
 abbrev pub Counted : ℕ → List Fate → Type 0
 Counted c [] = Unit {0}

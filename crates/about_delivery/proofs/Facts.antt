@@ -56,7 +56,8 @@ module _ (x : ℕ) (h r p s : List ℕ) (n : ℕ) (e : (x ∷ h) ++ r ≡ p) (g 
       let five = same-octets (x ∷ h) r p s n 5 e (omega arith) (omega (arith, g .least)) in
       let said : lengthIn ((x ∷ h) ++ here) ≡ length p = rw (four, five) (says p g) in
       let place : length p - length (x ∷ h) ≡ length r = omega (arith, sums) in
-      rw (le-ltb (length ((x ∷ h) ++ here)) 6 k, said, le-leb 16 (length p) (g .least), le-leb (length p) 251 (g .greatest), place) (eq-eqb (pointerTo (length r) (length here)) _ refl)
+      rw (le-ltb (length ((x ∷ h) ++ here)) 6 k, said, le-leb 16 (length p) (g .least), le-leb (length p) 251 (g .greatest), place)
+      (eq-eqb (pointerTo (length r) (length here)) _ refl)
 
   pub fits-inside : fits (x ∷ h) (pointerTo (length r) (length here)) here ≡ true
   fits-inside = go (order 6 (length ((x ∷ h) ++ here)))

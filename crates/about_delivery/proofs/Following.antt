@@ -9,11 +9,12 @@ use lib.ListN.{length, getD, take, drop, replicate}
 use lib.Seq.{slice, slice-empty}
 use lib.Dec.{eqb}
 use borrow.Author.Tests.{ne-eqb}
-use Rattle.rules.specs.Channel.{Piece, Held, nothing, cleared, unfinished, standing, Work, feed, holding, outOfStep, follow, enter, fits, pointerTo}
+use Rattle.rules.specs.Channel.{Piece, Held, nothing, cleared, unfinished, standing, Work, feed, holding, outOfStep, follow, enter, fits}
+use Rattle.rules.specs.Channel.{pointerTo}
 use Rattle.rules.specs.Packets.{AllGood, joined}
 use Rattle.rules.specs.Limits.{mostSent}
 use Rattle.rules.proofs.Standing.{Order, upTo, past, order, empty-unfinished, standing-unfinished}
-use Rattle.rules.proofs.Bounds.{entered-few, gone-on-few}
+use Rattle.rules.proofs.Room.{entered-few, gone-on-few}
 use Rattle.sender.proofs.Sending.{restAfter, packetsAfter}
 use Rattle.about_delivery.specs.Link.{Fate, lost, got}
 use Rattle.about_delivery.specs.Expected.{isGot, arrivalOf, allGot, arrived, nowhere}
@@ -54,7 +55,8 @@ module _ (ss : List Fate) where
       ∙ ap (λ (s : Fate). allGot (slice i k ss) && isGot s) (drop-get ss k (lost f) t e) ∙ and-false (allGot (slice i k ss))
 
   -- the begun packet misses the lost frame k
-  pub missed-now : (k i : ℕ) (f : Piece) (t : List Fate) → drop k ss ≡ lost f ∷ t → (b : Bool) (h : Held) (p r : List ℕ) → Inv k b h i p r → Missed ss k i r
+  pub missed-now : (k i : ℕ) (f : Piece) (t : List Fate) → drop k ss ≡ lost f ∷ t → (b : Bool) (h : Held) (p r : List ℕ) → Inv k b h i p r
+      → Missed ss k i r
   missed-now k i f t e b h p [] v = tt
   missed-now k i f t e true h p (x ∷ r) v = record { begun = v .begun; missed = lost-now k i f t e (v .begun) }
   missed-now k i f t e false h p (x ∷ r) v = record { begun = v .gap .begun; missed = lost-now k i f t e (v .gap .begun) }
@@ -65,31 +67,62 @@ module _ (ss : List Fate) where
 
   after-begun : (k i : ℕ) (h : Held) (p r : List ℕ) → Begun ss (arrived ss i k ≡ true) k i h r p → Inv (suc k) true h i p r
   after-begun k i h p [] m = m
-  after-begun k i h p (x ∷ r) m = record { all = m .all; some = m .some; good = m .good; begun = omega (arith, m .begun); arrives = m .arrives; first = m .first }
+  after-begun k i h p (x ∷ r) m =
+      record { all = m .all; some = m .some; good = m .good; begun = omega (arith, m .begun); arrives = m .arrives; first = m .first }
 
   -- as the channel holds it
   pub cleared-inv : (k : ℕ) (b : Bool) (h : Held) (i : ℕ) (p r : List ℕ) → Inv k b h i p r → Inv k b (cleared h) i p r
   cleared-inv k true h i p [] v = ap cleared v
   cleared-inv k true h i p (x ∷ r) v =
-      record { all = v .all; some = v .some; good = v .good; begun = v .begun; arrives = v .arrives; first = begun-some 0 (h .first) (length (h .octets)) (v .some) ∙ v .first }
+      record {
+        all = v .all;
+        some = v .some;
+        good = v .good;
+        begun = v .begun;
+        arrives = v .arrives;
+        first = begun-some 0 (h .first)
+            (length (h .octets)) (v .some) ∙ v .first;
+      }
   cleared-inv k false h i p r v = record { empty = ap cleared (v .empty); gap = v .gap }
 
   -- a raw frame that arrived changes nothing
-  pub after-raw : (k a i : ℕ) (f : Piece) (t : List Fate) → drop k ss ≡ got a f ∷ t → (b : Bool) (h : Held) (p r : List ℕ) → Inv k b h i p r → Inv (suc k) b h i p r
+  pub after-raw : (k a i : ℕ) (f : Piece) (t : List Fate) → drop k ss ≡ got a f ∷ t → (b : Bool) (h : Held) (p r : List ℕ) → Inv k b h i p r
+      → Inv (suc k) b h i p r
   after-raw k a i f t e true h p [] v = v
   after-raw k a i f t e false h p [] v = record { empty = v .empty; gap = tt }
   after-raw k a i f t e true h p (x ∷ r) v =
-      record { all = v .all; some = v .some; good = v .good; begun = omega (arith, v .begun); arrives = got-now k a i f t e (v .begun) ∙ v .arrives; first = v .first }
+      record {
+        all = v .all;
+        some = v .some;
+        good = v .good;
+        begun = omega (arith, v .begun);
+        arrives = got-now k a i f t e (v .begun)
+            ∙ v .arrives;
+        first = v .first;
+      }
   after-raw k a i f t e false h p (x ∷ r) v =
-      record { empty = v .empty; gap = record { begun = omega (arith, v .gap .begun); missed = got-now k a i f t e (v .gap .begun) ∙ v .gap .missed } }
+      record {
+        empty = v .empty;
+        gap = record
+            { begun = omega (arith, v .gap .begun); missed = got-now k a i f t e (v .gap .begun) ∙ v .gap .missed };
+      }
 
   now-begun : (k a i : ℕ) (f : Piece) (t : List Fate) → drop k ss ≡ got a f ∷ t → (h : Held) (p r : List ℕ) → Inv k true h i p r
       → Begun ss (arrived ss i k ≡ true) k i h r p
   now-begun k a i f t e h p [] v = v
   now-begun k a i f t e h p (x ∷ r) v =
-      record { all = v .all; some = v .some; good = v .good; begun = v .begun; arrives = got-now k a i f t e (v .begun) ∙ v .arrives; first = v .first }
+      record {
+        all = v .all;
+        some = v .some;
+        good = v .good;
+        begun = v .begun;
+        arrives = got-now k a i f t e (v .begun)
+            ∙ v .arrives;
+        first = v .first;
+      }
 
-  now-missed : (k a i : ℕ) (f : Piece) (t : List Fate) → drop k ss ≡ got a f ∷ t → (h : Held) (p r : List ℕ) → Inv k false h i p r → Missed ss k i r
+  now-missed : (k a i : ℕ) (f : Piece) (t : List Fate) → drop k ss ≡ got a f ∷ t → (h : Held) (p r : List ℕ) → Inv k false h i p r
+      → Missed ss k i r
   now-missed k a i f t e h p [] v = tt
   now-missed k a i f t e h p (x ∷ r) v = record { begun = v .gap .begun; missed = got-now k a i f t e (v .gap .begun) ∙ v .gap .missed }
 
@@ -113,7 +146,8 @@ module _ (ss : List Fate) where
   unfinished-now k i h p [] v = rw v empty-unfinished
   unfinished-now k i h p (x ∷ r) v = standing-unfinished (h .octets) (x ∷ r) p (v .all) (v .good) (omega arith)
 
-  follow-in : (a : ℕ) (h : Held) (ptr : ℕ) (xs : List ℕ) → eqb ptr 254 ≡ false → fits (h .octets) ptr xs ≡ true → follow a true h ptr xs ≡ feed a (holding h [] 0) xs
+  follow-in : (a : ℕ) (h : Held) (ptr : ℕ) (xs : List ℕ) → eqb ptr 254 ≡ false → fits (h .octets) ptr xs ≡ true
+      → follow a true h ptr xs ≡ feed a (holding h [] 0) xs
   unfolding follow
   follow-in a h ptr xs e f = rw (e, f)
 
@@ -129,7 +163,8 @@ module _ (ss : List Fate) where
     arr : arrivalOf (getD ss k nowhere) ≡ a
     arr = ap arrivalOf (drop-get ss k (got a f) t e)
 
-    got-in : (h : Held) (p r : List ℕ) (i : ℕ) (ps : List (List ℕ)) → AllGood ps → Inv k true h i p r → length (take n (r ++ joined ps)) ≤ 251
+    got-in : (h : Held) (p r : List ℕ) (i : ℕ) (ps : List (List ℕ)) → AllGood ps → Inv k true h i p r → length
+        (take n (r ++ joined ps)) ≤ 251
         → Stepped k a i p r ps n own (follow a true h (pointerTo (length r) (length (take n (r ++ joined ps)))) (take n (r ++ joined ps)))
     got-in h p r i ps gs v small =
         let xs : List ℕ = take n (r ++ joined ps) in
@@ -145,11 +180,17 @@ module _ (ss : List Fate) where
           same = u .same;
           inv = after-begun k (u .start) (u .held) (u .packet) (restAfter n r ps) (u .begins);
           good = u .good;
-          light = omega (arith, ap (λ (v : Work). v .headers) w, gone-on-few a h (pointerTo (length r) (length xs)) xs (unfinished-now k i h p r v) (fits-now k i h p r ps n v) small);
+          light = omega (
+            arith,
+            ap (λ (v : Work). v .headers) w,
+            gone-on-few a h (pointerTo (length r) (length xs)) xs
+                (unfinished-now k i h p r v) (fits-now k i h p r ps n v) small,
+          );
         })
 
     got-none : (p r : List ℕ) (i : ℕ) (ps : List (List ℕ)) → AllGood ps → Missed ss k i r → length (take n (r ++ joined ps)) ≤ length r
-        → Stepped k a i p r ps n own (follow a false nothing (pointerTo (length r) (length (take n (r ++ joined ps)))) (take n (r ++ joined ps)))
+        → Stepped k a i p r ps n own (follow a false nothing (pointerTo (length r) (length (take n (r ++ joined ps))))
+        (take n (r ++ joined ps)))
     got-none p r i ps gs m l =
         let xs : List ℕ = take n (r ++ joined ps) in
         let w : follow a false nothing (pointerTo (length r) (length xs)) xs ≡ outOfStep [] 0 =
@@ -164,8 +205,10 @@ module _ (ss : List Fate) where
           light = omega arith;
         })
 
-    got-some : (p r : List ℕ) (i : ℕ) (ps : List (List ℕ)) → AllGood ps → Missed ss k i r → length r < length (take n (r ++ joined ps)) → length (take n (r ++ joined ps)) ≤ 251
-        → Stepped k a i p r ps n own (follow a false nothing (pointerTo (length r) (length (take n (r ++ joined ps)))) (take n (r ++ joined ps)))
+    got-some : (p r : List ℕ) (i : ℕ) (ps : List (List ℕ)) → AllGood ps → Missed ss k i r → length r < length (take n (r ++ joined ps))
+        → length (take n (r ++ joined ps)) ≤ 251
+        → Stepped k a i p r ps n own (follow a false nothing (pointerTo (length r) (length (take n (r ++ joined ps))))
+        (take n (r ++ joined ps)))
     got-some p r i ps gs m l small =
         let xs : List ℕ = take n (r ++ joined ps) in
         let s : Skipped ss k own n i p r ps = skip-to ss k own n i p r ps m l in
@@ -184,16 +227,19 @@ module _ (ss : List Fate) where
           light = omega (arith, ap (λ (v : Work). v .headers) w, entered-few a nothing (pointerTo (length r) (length xs)) xs small);
         })
 
-    got-out : (h : Held) (p r : List ℕ) (i : ℕ) (ps : List (List ℕ)) → AllGood ps → Inv k false h i p r → length (take n (r ++ joined ps)) ≤ 251
+    got-out : (h : Held) (p r : List ℕ) (i : ℕ) (ps : List (List ℕ)) → AllGood ps → Inv k false h i p r → length
+        (take n (r ++ joined ps)) ≤ 251
         → Stepped k a i p r ps n own (follow a false h (pointerTo (length r) (length (take n (r ++ joined ps)))) (take n (r ++ joined ps)))
     got-out h p r i ps gs v small = rw (v .empty) (go (order (suc (length r)) (length (take n (r ++ joined ps)))))
       where
         go : Order (suc (length r)) (length (take n (r ++ joined ps)))
-            → Stepped k a i p r ps n own (follow a false nothing (pointerTo (length r) (length (take n (r ++ joined ps)))) (take n (r ++ joined ps)))
+            → Stepped k a i p r ps n own (follow a false nothing (pointerTo (length r) (length (take n (r ++ joined ps))))
+            (take n (r ++ joined ps)))
         go (upTo l q) = got-some p r i ps gs (now-missed k a i f t e h p r v) l small
         go (past l q) = got-none p r i ps gs (now-missed k a i f t e h p r v) (omega arith)
 
-    pub got-any : (b : Bool) (h : Held) (p r : List ℕ) (i : ℕ) (ps : List (List ℕ)) → AllGood ps → Inv k b h i p r → length (take n (r ++ joined ps)) ≤ 251
+    pub got-any : (b : Bool) (h : Held) (p r : List ℕ) (i : ℕ) (ps : List (List ℕ)) → AllGood ps → Inv k b h i p r → length
+        (take n (r ++ joined ps)) ≤ 251
         → Stepped k a i p r ps n own (follow a b h (pointerTo (length r) (length (take n (r ++ joined ps)))) (take n (r ++ joined ps)))
     got-any true h p r i ps gs v small = got-in h p r i ps gs v small
     got-any false h p r i ps gs v small = got-out h p r i ps gs v small

@@ -1,7 +1,7 @@
 -- The master loss of a sender by the rules.
 use mathlib.Core.Path.{_≡_, refl, sym, ap, _∙_, subst}
 use mathlib.Core.List.{List, [], _∷_, _++_, map}
-use mathlib.Core.Bool.{Bool, true, false}
+use mathlib.Core.Bool.{Bool, false}
 use mathlib.Core.Option.{Option, none, some}
 use Prim.Native.Nat.{ℕ, _+_, _%_, _≤_, _<_}
 use native.Mathlib.Omega.{arith}
@@ -60,7 +60,11 @@ unfolding lostSince
 lost-modulo l d m e =
     ap Known
     (sym (gap-alone 256 m l (d % 256) (omega arith)
-    (record { below = mod-lt d (omega arith); leads = add-mod-mod (l + 1) d 256 ∙ sym (mod-mod (l + 1 + d) 256) ∙ ap (λ (n : ℕ). n % 256) (sym e) })))
+    (record {
+      below = mod-lt d (omega arith);
+      leads = add-mod-mod (l + 1) d 256 ∙ sym (mod-mod (l + 1 + d) 256) ∙ ap (λ (n : ℕ). n % 256)
+          (sym e);
+    })))
 
 lost-told : (l d : Option ℕ) (m : ℕ) → Follows l d m → lostSince l m ≡ lossModulo256 (toldAs d)
 unfolding lostSince
@@ -207,7 +211,8 @@ module _ (t : ℕ) where
 pub master-loss : MasterLoss
 master-loss r =
     masters (r .t) (r .frames) (r .link) (r .calls) (opened (r .t) (r .last)) none (r .sender .master)
-    (opened-sound (r .t) (r .last) (r .timeSize)) refl (opened-runs (r .t) (r .last) (r .timeSize) (r .opened) (r .opens) (r .calls) (r .runs)) (r .room)
+    (opened-sound (r .t) (r .last) (r .timeSize)) refl
+    (opened-runs (r .t) (r .last) (r .timeSize) (r .opened) (r .opens) (r .calls) (r .runs)) (r .room)
     (r .offers) (r .sender .wellFormed) (r .sender .masters) (r .sender .small) (r .numbers) tt (r .strays)
 
 small : (l : Loss) → number l ≤ mostLost → lossModulo256 l ≡ l

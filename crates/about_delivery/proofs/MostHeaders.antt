@@ -24,7 +24,31 @@ use Rattle.about_delivery.proofs.MostLost.{alone-masters, alone-pieces,
 use Rattle.about_delivery.proofs.Witness.{begun, opens, receiving}
 
 many-good : AllGood many
-many-good = (good-16, (good-16, (good-16, (good-16, (good-16, (good-16, (good-16, (good-16, (good-16, (good-16, (good-16, (good-16, (good-16, (good-16, (good-16, (good-16, tt))))))))))))))))
+many-good = (
+  good-16,
+  (
+    good-16,
+    (
+      good-16,
+      (
+        good-16,
+        (
+          good-16,
+          (
+            good-16,
+            (
+              good-16,
+              (
+                good-16,
+                (good-16, (good-16, (good-16, (good-16, (good-16, (good-16, (good-16, (good-16, tt)))))))),
+              ),
+            ),
+          ),
+        ),
+      ),
+    ),
+  ),
+)
 
 abbrev sent : List Framed
 sent = alone 7 sentPieces
@@ -38,7 +62,8 @@ unfolding fieldsWrong pointerWrong
 torn-formed = (refl, (refl, tt))
 
 abbrev streams : (v : ℕ) → v < 8 → Stream v sent
-streams zero l = record { packets = many; good = many-good; choices = next 249 ∷ []; first = 3; small = lit< tt; sent = alone-pieces 7 sentPieces }
+streams zero l =
+    record { packets = many; good = many-good; choices = next 249 ∷ []; first = 3; small = lit< tt; sent = alone-pieces 7 sentPieces }
 streams (suc v) l = record { packets = []; good = tt; choices = []; first = 0; small = lit< tt; sent = no-pieces v 7 sentPieces }
 
 abbrev sender : Sender 2 sent

@@ -61,7 +61,16 @@ no-fates v last (loses ∷ link) m (p ∷ ps) = rw (other v) (no-fates v last li
 no-fates v last (noise n ∷ link) m (p ∷ ps) = no-fates v (last + 1) link m (p ∷ ps)
 
 abbrev streams : (v : ℕ) → v < 8 → Stream v recording
-streams zero l = record { packets = two; good = (good-16, (good-30, tt)); choices = manyEmpty 255; first = 3; small = lit< tt; sent = alone-pieces 7 pieces }
+streams zero l =
+    record {
+      packets = two;
+      good = (good-16, (good-30, tt));
+      choices = manyEmpty 255;
+      first = 3;
+      small = lit< tt;
+      sent = alone-pieces 7
+          pieces;
+    }
 streams (suc v) l = record { packets = []; good = tt; choices = []; first = 0; small = lit< tt; sent = no-pieces v 7 pieces }
 
 abbrev sender : Sender 2 recording

@@ -5,7 +5,8 @@ use mathlib.Core.Bool.{true, false}
 use Prim.Native.Nat.{ℕ, zero, suc, _+_, _≤_, _<_}
 use native.Mathlib.Omega.{arith}
 use lib.ListN.{length, getD, take, drop, length-append, replicate}
-use Rattle.rules.specs.Channel.{heldOf, Held, nothing, begunIn, grown, Handed, given, unfinished, whole, standing, sixth, push, feed, holding}
+use Rattle.rules.specs.Channel.{heldOf, Held, nothing, begunIn, grown, Handed, given, unfinished, whole, standing, sixth, push, feed}
+use Rattle.rules.specs.Channel.{holding}
 use Rattle.rules.specs.Packets.{Good, AllGood, joined}
 use Rattle.sender.proofs.Sending.{restAfter, packetsAfter}
 use Rattle.about_delivery.specs.Link.{Fate}
@@ -49,8 +50,10 @@ module _ (ss : List Fate) (k a : ℕ) (arr : arrivalOf (getD ss k nowhere) ≡ a
       → Begun ss (arrived ss i k ≡ true) k i h r p → Taken n h r ps acc m i p
 
   -- an octet that is not its packet's last; and one that is
-  take-more : (n : ℕ) → Takes n → (h : Held) (x y : ℕ) (r : List ℕ) (ps : List (List ℕ)) (acc : List Handed) (m i : ℕ) (p : List ℕ) → AllGood ps
-      → h .octets ++ x ∷ y ∷ r ≡ p → Good p → i ≤ k → arrived ss i k ≡ true → begunIn a (h .first) (length (h .octets)) ≡ arrivalOf (getD ss i nowhere)
+  take-more : (n : ℕ) → Takes n → (h : Held) (x y : ℕ) (r : List ℕ) (ps : List (List ℕ)) (acc : List Handed) (m i : ℕ) (p : List ℕ)
+      → AllGood ps
+      → h .octets ++ x ∷ y ∷ r ≡ p → Good p → i ≤ k → arrived ss i k ≡ true → begunIn a (h .first) (length (h .octets)) ≡ arrivalOf
+      (getD ss i nowhere)
       → Taken (suc n) h (x ∷ y ∷ r) ps acc m i p
   unfolding push
   take-more n rec h x y r ps acc m i p gs e g l ok fi =
@@ -58,7 +61,8 @@ module _ (ss : List Fate) (k a : ℕ) (arr : arrivalOf (getD ss k nowhere) ≡ a
       let e′ : h′ ++ y ∷ r ≡ p = append-assoc (h .octets) (x ∷ []) (y ∷ r) ∙ e in
       let st : standing h′ ≡ unfinished = standing-unfinished h′ (y ∷ r) p e′ g (omega arith) in
       let len : length h′ ≡ length (h .octets) + 1 = length-append (h .octets) (x ∷ []) in
-      let t : Taken n (grown a h x) (y ∷ r) ps acc (sixth (h .octets) m) i p = rec (grown a h x) (y ∷ r) ps acc (sixth (h .octets) m) i p gs (record { all = e′; some = omega arith; good = g; begun = l; arrives = ok; first = fi }) in
+      let t : Taken n (grown a h x) (y ∷ r) ps acc (sixth (h .octets) m) i p = rec (grown a h x) (y ∷ r) ps acc (sixth (h .octets) m) i p gs
+      (record { all = e′; some = omega arith; good = g; begun = l; arrives = ok; first = fi }) in
       record {
         out = t .out;
         held = t .held;
@@ -72,14 +76,16 @@ module _ (ss : List Fate) (k a : ℕ) (arr : arrivalOf (getD ss k nowhere) ≡ a
       }
 
   take-last : (n : ℕ) → Takes n → (h : Held) (x : ℕ) (ps : List (List ℕ)) (acc : List Handed) (m i : ℕ) (p : List ℕ) → AllGood ps
-      → h .octets ++ x ∷ [] ≡ p → Good p → i ≤ k → arrived ss i k ≡ true → begunIn a (h .first) (length (h .octets)) ≡ arrivalOf (getD ss i nowhere)
+      → h .octets ++ x ∷ [] ≡ p → Good p → i ≤ k → arrived ss i k ≡ true → begunIn a (h .first) (length (h .octets)) ≡ arrivalOf
+      (getD ss i nowhere)
       → Taken (suc n) h (x ∷ []) ps acc m i p
   unfolding push
   take-last n rec h x ps acc m i p gs e g l ok fi =
       let h′ : List ℕ = h .octets ++ x ∷ [] in
       let g′ : Handed = given a (grown a h x) in
       let st : standing h′ ≡ whole = standing-whole h′ [] p (append-nil h′ ∙ e) g refl in
-      let t : Taken n nothing [] ps (acc ++ g′ ∷ []) (sixth (h .octets) m) i p = rec nothing [] ps (acc ++ g′ ∷ []) (sixth (h .octets) m) i p gs refl in
+      let t : Taken n nothing [] ps (acc ++ g′ ∷ []) (sixth (h .octets) m) i p = rec nothing [] ps (acc ++ g′ ∷ [])
+      (sixth (h .octets) m) i p gs refl in
       let is : given a (heldOf (arrivalOf (getD ss i nowhere)) p) ≡ g′ = rw (← e, ← fi) in
       record {
         out = g′ ∷ t .out;
@@ -95,8 +101,10 @@ module _ (ss : List Fate) (k a : ℕ) (arr : arrivalOf (getD ss k nowhere) ≡ a
         good = t .good;
       }
 
-  take-octet : (n : ℕ) → Takes n → (h : Held) (x : ℕ) (r : List ℕ) (ps : List (List ℕ)) (acc : List Handed) (m i : ℕ) (p : List ℕ) → AllGood ps
-      → h .octets ++ x ∷ r ≡ p → Good p → i ≤ k → arrived ss i k ≡ true → begunIn a (h .first) (length (h .octets)) ≡ arrivalOf (getD ss i nowhere)
+  take-octet : (n : ℕ) → Takes n → (h : Held) (x : ℕ) (r : List ℕ) (ps : List (List ℕ)) (acc : List Handed) (m i : ℕ) (p : List ℕ)
+      → AllGood ps
+      → h .octets ++ x ∷ r ≡ p → Good p → i ≤ k → arrived ss i k ≡ true → begunIn a (h .first) (length (h .octets)) ≡ arrivalOf
+      (getD ss i nowhere)
       → Taken (suc n) h (x ∷ r) ps acc m i p
   take-octet n rec h x [] ps acc m i p gs e g l ok fi = take-last n rec h x ps acc m i p gs e g l ok fi
   take-octet n rec h x (y ∷ r) ps acc m i p gs e g l ok fi = take-more n rec h x y r ps acc m i p gs e g l ok fi
@@ -118,7 +126,8 @@ module _ (ss : List Fate) (k a : ℕ) (arr : arrivalOf (getD ss k nowhere) ≡ a
   pub takes : arrived ss k k ≡ true → (n : ℕ) → Takes n
   takes here zero h r ps acc m i p gs b = none 0 h r ps acc m i p gs b
   takes here (suc n) h (x ∷ r) ps acc m i p gs b =
-      take-octet n (takes here n) h x r ps acc m i p gs (b .all) (b .good) (b .begun) (b .arrives) (begun-some a (h .first) (length (h .octets)) (b .some) ∙ b .first)
+      take-octet n (takes here n) h x r ps acc m i p gs (b .all) (b .good) (b .begun) (b .arrives)
+      (begun-some a (h .first) (length (h .octets)) (b .some) ∙ b .first)
   takes here (suc n) h [] [] acc m i p gs b = record {
     out = [];
     held = h;

@@ -32,7 +32,8 @@ record Walked (reports : List Report) (walked : List Handed) : Type 0 where
   light : EachFew reports
 
 module _ (ss : List Fate) where
-  follow-raw : (a : ℕ) (b : Bool) (h : Held) (xs : List ℕ) → follow a b h 254 xs ≡ record { inStep = b; held = h; packets = []; headers = 0 }
+  follow-raw : (a : ℕ) (b : Bool) (h : Held) (xs : List ℕ) → follow a b h 254 xs ≡ record
+      { inStep = b; held = h; packets = []; headers = 0 }
   unfolding follow
   follow-raw a b h xs = refl
 
@@ -72,9 +73,12 @@ module _ (ss : List Fate) where
       let small : length (take n (r ++ joined ps)) ≤ 251 = omega (arith, sz .0, ap (λ (g : Piece). length (g .octets)) here) in
       let w : Work = follow a b h (pointerTo (length r) (length (take n (r ++ joined ps)))) (take n (r ++ joined ps)) in
       let g : Stepped ss k a i p r ps n (owners (suc k) t) w = got-any ss k a f t d n (owners (suc k) t) b h p r i ps gs v small in
-      let m : Walked (eager (some 0) (w .inStep) (cleared (w .held)) t) (walk ss (g .start) (g .packet) (restAfter n r ps) (packetsAfter n r ps) (owners (suc k) t)) =
-      main t cs (nextCount c) (suc k) (some 0) (w .inStep) (cleared (w .held)) (g .start) (g .packet) (restAfter n r ps) (packetsAfter n r ps)
-      (drop-suc ss k (got a f) t d) rest (g .good) (sz .1) (cleared-inv ss (suc k) (w .inStep) (w .held) (g .start) (g .packet) (restAfter n r ps) (g .inv)) in
+      let m : Walked (eager (some 0) (w .inStep) (cleared (w .held)) t)
+      (walk ss (g .start) (g .packet) (restAfter n r ps) (packetsAfter n r ps) (owners (suc k) t)) =
+      main t cs (nextCount c) (suc k) (some 0) (w .inStep) (cleared (w .held)) (g .start) (g .packet) (restAfter n r ps)
+      (packetsAfter n r ps)
+      (drop-suc ss k (got a f) t d) rest (g .good) (sz .1)
+      (cleared-inv ss (suc k) (w .inStep) (w .held) (g .start) (g .packet) (restAfter n r ps) (g .inv)) in
       rw (here, carries-next c r ps n small, g .same)
       (record { packets = ap (λ (l : List Handed). w .packets ++ l) (m .packets); light = (g .light, m .light) })
 
@@ -99,7 +103,8 @@ delivery ps cs c ss gs hc e sz m =
     let e′ : map piece ss ≡ cutInto c [] ps cs = e ∙ frames-cut ps cs 0 c [] ps gs refl refl in
     let seen = counts ss c hc (counted ss cs c [] ps e′) m in
     record {
-      handed-out = ap handed seen ∙ main ss ss cs c 0 none false nothing 0 [] [] ps refl e′ gs sz (record { empty = refl; gap = tt }) .packets;
+      handed-out =
+          ap handed seen ∙ main ss ss cs c 0 none false nothing 0 [] [] ps refl e′ gs sz (record { empty = refl; gap = tt }) .packets;
       losses-told = ap losses seen ∙ eager-losses none false nothing ss;
     }
 

@@ -72,7 +72,8 @@ module _ (t v : ℕ) (c : Call) (cs : List Call) (s : Session) where
       ∙ ap (run (view (channelAt s v)))
       (sym (numbered t v (s .arrival) x xs e ∙ ap (λ (l : List channels.Offer). l ++ offersOf t v (s .arrival + 1) xs) none))
 
-  module _ (x : List ℕ) (f : Frame) (e : eqb (s .arrival) lastNumber ≡ false) (a : readFrame t x .accepted ≡ true) (same : readFrame t x .fields ≡ f) where
+  module _ (x : List ℕ) (f : Frame) (e : eqb (s .arrival) lastNumber ≡ false) (a : readFrame t x .accepted ≡ true)
+      (same : readFrame t x .fields ≡ f) where
     abbrev d : List ℕ
     d = dataOf f x
 
@@ -95,12 +96,15 @@ module _ (t v : ℕ) (c : Call) (cs : List Call) (s : Session) where
         let i : f .channel ≡ v = eqb-true (f .channel) v q in
         let st : rules.Answer = rules.step (s .arrival + 1) (view (channelAt s v)) (pieceOf f d) in
         let is : ruled (counted s) f d ≡ st = ruled-here s f d v i in
-        let seen : view (channelAt (o .session) v) ≡ st .next = accepted-here v (counted s) f d i l ∙ ap (λ (z : rules.Answer). z .next) is in
+        let seen : view (channelAt (o .session) v) ≡ st .next = accepted-here v (counted s) f d i l ∙ ap
+        (λ (z : rules.Answer). z .next) is in
         let here : when (took v c) (reportOf c) ≡ report (s .arrival + 1) st ∷ [] = says g ∙ rw (q, is) in
-        let offer : offersOf t v (s .arrival) (found x ∷ xs) ≡ record { arrival = s .arrival + 1; frame = pieceOf f d } ∷ offersOf t v (s .arrival + 1) xs =
+        let offer : offersOf t v (s .arrival) (found x ∷ xs) ≡ record { arrival = s .arrival + 1; frame = pieceOf f d } ∷ offersOf t v
+        (s .arrival + 1) xs =
         offers ∙ rw q in
         ap (λ (l : List Report). l ++ reportsOf v cs) here
-        ∙ ap (λ (l : List Report). report (s .arrival + 1) st ∷ l) (goes r ∙ ap (λ (z : rules.Channel). run z (offersOf t v (s .arrival + 1) xs)) seen)
+        ∙ ap (λ (l : List Report). report (s .arrival + 1) st ∷ l)
+        (goes r ∙ ap (λ (z : rules.Channel). run z (offersOf t v (s .arrival + 1) xs)) seen)
         ∙ ap (run (view (channelAt s v))) (sym offer)
 
     case-other : eqb (f .channel) v ≡ false → Given o → Rest o → Right (found x)
@@ -129,7 +133,9 @@ module _ (t v : ℕ) where
     pub there : v < length (s .channels)
 
   abbrev Projects : List Call → Type 0
-  Projects cs = (s : Session) → Ready s → Runs s cs → Room cs → reportsOf v cs ≡ run (view (channelAt s v)) (offersOf t v (s .arrival) (map offerOf cs))
+  Projects cs =
+      (s : Session) → Ready s → Runs s cs → Room cs → reportsOf v cs ≡ run (view (channelAt s v))
+      (offersOf t v (s .arrival) (map offerOf cs))
 
   -- after an outcome o of s that leaves t
   next-ready : (s : Session) (o : Outcome) → Ready s → Stays s o → o .session .t ≡ s .t → Ready (o .session)

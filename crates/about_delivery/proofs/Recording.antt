@@ -5,11 +5,8 @@ use mathlib.Core.Bool.{Bool, true, false}
 use Prim.Native.Nat.{ℕ, _+_, _≤_, _<_}
 use native.Mathlib.Omega.{arith}
 use lib.ListN.{length}
-use lib.Dec.{eqb}
 use borrow.Author.Tests.{le-ltb, ne-eqb}
 use Rattle.octets.specs.Pick.{pick}
-use Rattle.octets.proofs.Choices.{passed}
-use Rattle.frame.specs.Frame.{readFrame}
 use Rattle.frame.specs.Back.{ReadBack}
 use Rattle.frame.proofs.ReadsBack.{reads-back}
 use Rattle.frame.proofs.Accepts.{accepts}
@@ -58,7 +55,8 @@ offered-lost : (b : Bool) (p : rules.Piece) (ss : List Fate) → offered (when b
 offered-lost true p ss = refl
 offered-lost false p ss = refl
 
-offered-got : (b : Bool) (a : ℕ) (p : rules.Piece) (ss : List Fate) → offered (when b (got a p) ++ ss) ≡ when b (record { arrival = a; frame = p }) ++ offered ss
+offered-got : (b : Bool) (a : ℕ) (p : rules.Piece) (ss : List Fate) → offered (when b (got a p) ++ ss) ≡ when b
+    (record { arrival = a; frame = p }) ++ offered ss
 offered-got true a p ss = refl
 offered-got false a p ss = refl
 
@@ -74,7 +72,8 @@ module _ (t : ℕ) where
   all-short v (f ∷ fs) w =
       let r = reads-back (f .fields) t (f .«data») (f .time) (w .0) in
       let a = accepts t (sentOctets t f) (f .fields) (r .fields) in
-      short-when (ofChannel v f) (pieceOf f) (piecesOf v fs) (omega (arith, a .few, a .«data», ap length (r .«data»))) (all-short v fs (w .1))
+      short-when (ofChannel v f) (pieceOf f) (piecesOf v fs) (omega (arith, a .few, a .«data», ap length (r .«data»)))
+      (all-short v fs (w .1))
 
   offer-is : (v a : ℕ) (f : Framed) → ReadBack (f .fields) t (f .«data») (f .time)
       → offerFor t v a (found (sentOctets t f)) ≡ when (ofChannel v f) (record { arrival = a; frame = pieceOf f })
@@ -124,11 +123,13 @@ opening-is : (t last : ℕ) → t ≤ 8 → opening t last .session ≡ opened t
 unfolding opening pick
 opening-is t last l = rw (le-ltb 8 t l)
 
-pub opened-runs : (t last : ℕ) → t ≤ 8 → (o : Opened) → Opens t last o → (calls : List Call) → Runs (o .session) calls → Runs (opened t last) calls
+pub opened-runs : (t last : ℕ) → t ≤ 8 → (o : Opened) → Opens t last o → (calls : List Call) → Runs (o .session) calls → Runs
+    (opened t last) calls
 opened-runs t last k o h calls w = subst (λ (z : Session). Runs z calls) (h .session ∙ opening-is t last k) w
 
 -- a run from an opening, for channel v
-pub from-opening : (t last v : ℕ) → t ≤ 8 → v < 8 → (o : Opened) → Opens t last o → (calls : List Call) → Runs (o .session) calls → Room calls
+pub from-opening : (t last v : ℕ) → t ≤ 8 → v < 8 → (o : Opened) → Opens t last o → (calls : List Call) → Runs (o .session) calls
+    → Room calls
     → reportsOf v calls ≡ run rules.fresh (offersOf t v last (map offerOf calls))
 from-opening t last v k l o h calls w room =
     projects t v calls (opened t last) (record { sound = opened-sound t last k; time = refl; there = l })
@@ -149,7 +150,8 @@ independent-from s s′ v calls calls′ l l′ u u′ t c w room w′ room′ e
     ∙ sym (projects (s′ .t) v calls′ s′ (record { sound = u′; time = refl; there = l′ }) w′ room′)
 
 -- what calls from an opening say of a channel, well-formed frames having been offered to them
-pub frames-said : (t last v : ℕ) → t ≤ 8 → v < 8 → (o : Opened) → Opens t last o → (calls : List Call) → Runs (o .session) calls → Room calls
+pub frames-said : (t last v : ℕ) → t ≤ 8 → v < 8 → (o : Opened) → Opens t last o → (calls : List Call) → Runs (o .session) calls
+    → Room calls
     → (link : List Passing) → Strays t link → (frames : List Framed) → AllWellFormed t frames → map offerOf calls ≡ arriving t link frames
     → last + length (arriving t link frames) ≤ lastNumber → reportsOf v calls ≡ run rules.fresh (offered (fates v last link frames))
 frames-said t last v k l o h calls w room link st frames well e n =

@@ -110,5 +110,6 @@ arrivals-by-size c h last j l =
     let least : full * w .size ≤ m = full-least (w .size) m (a .least) in
     let most : m ≤ full * w .size + w .size = full-most (w .size) m (a .least) in
     ap (λ (fs : List Framed). getD (arrivalsOf (w .common .channel) last fs) j 0) (frames-by w)
-    ∙ by-size (w .common) (w .time) (packetsOf w) (w .size) (a .least) (omega (arith, a .greatest)) full (m - full * w .size) last (w .master) 0 (w .count) j
+    ∙ by-size (w .common) (w .time) (packetsOf w) (w .size) (a .least) (omega (arith, a .greatest)) full (m - full * w .size) last
+    (w .master) 0 (w .count) j
     (omega arith) (omega arith) (omega arith)

@@ -89,13 +89,38 @@ shams = record {
   calls-unknown-only = refl;
   holds-across = record { within = gap-within; fails = λ d. let z : _≡_ {A = ℕ} 2 1 = ap length (d .handed-out) in omega arith };
   holds-across-only = refl;
-  reads-c = record { within = plain-within; fails = λ d. let z : _≡_ {A = ℕ} 9 16 = ap (λ (ps : List Handed). length (getD ps 0 (out 0 0 []) .packet)) (d .handed-out) in omega arith };
-  first-for-last = record { within = parted-within; fails = λ d. let z : _≡_ {A = ℕ} 1 2 = ap (λ (ps : List Handed). second ps .arrival) (d .handed-out) in omega arith };
+  reads-c =
+      record {
+        within = plain-within;
+        fails = λ d. let z : _≡_ {A = ℕ} 9 16 = ap
+            (λ (ps : List Handed). length (getD ps 0 (out 0 0 []) .packet)) (d .handed-out) in omega arith;
+      };
+  first-for-last =
+      record {
+        within = parted-within;
+        fails = λ d. let z : _≡_ {A = ℕ} 1 2 = ap (λ (ps : List Handed). second ps .arrival)
+            (d .handed-out) in omega arith;
+      };
   first-for-last-only = refl;
-  last-for-first = record { within = parted-within; fails = λ d. let z : _≡_ {A = ℕ} 2 1 = ap (λ (ps : List Handed). second ps .first) (d .handed-out) in omega arith };
+  last-for-first =
+      record {
+        within = parted-within;
+        fails = λ d. let z : _≡_ {A = ℕ} 2 1 = ap (λ (ps : List Handed). second ps .first)
+            (d .handed-out) in omega arith;
+      };
   last-for-first-only = refl;
-  forgets-first = record { within = split-within; fails = λ d. let z : _≡_ {A = ℕ} 4 2 = ap (λ (ps : List Handed). second ps .first) (d .handed-out) in omega arith };
+  forgets-first =
+      record {
+        within = split-within;
+        fails = λ d. let z : _≡_ {A = ℕ} 4 2 = ap (λ (ps : List Handed). second ps .first)
+            (d .handed-out) in omega arith;
+      };
   forgets-first-only = refl;
-  moves-first = record { within = raws-within; fails = λ d. let z : _≡_ {A = ℕ} 2 1 = ap (λ (ps : List Handed). getD ps 0 (out 0 0 []) .first) (d .handed-out) in omega arith };
+  moves-first =
+      record {
+        within = raws-within;
+        fails = λ d. let z : _≡_ {A = ℕ} 2 1 = ap (λ (ps : List Handed). getD ps 0 (out 0 0 []) .first)
+            (d .handed-out) in omega arith;
+      };
   moves-first-only = refl;
 }

@@ -52,7 +52,15 @@ streams (suc (suc zero)) l = idle 2 refl
 streams (suc (suc (suc zero))) l = idle 3 refl
 streams (suc (suc (suc (suc zero)))) l = idle 4 refl
 streams (suc (suc (suc (suc (suc zero))))) l =
-    record { packets = fivePackets; good = (good-251, (good-16, (good-30, tt))); choices = fiveChoices; first = 9; small = lit< tt; sent = refl }
+    record {
+      packets = fivePackets;
+      good = (good-251, (good-16, (good-30, tt)));
+      choices = fiveChoices;
+      first = 9;
+      small = lit< tt;
+      sent =
+          refl;
+    }
 streams (suc (suc (suc (suc (suc (suc zero)))))) l = idle 6 refl
 streams (suc (suc (suc (suc (suc (suc (suc zero))))))) l = idle 7 refl
 streams (suc (suc (suc (suc (suc (suc (suc (suc n)))))))) l = absurd (omega arith)

@@ -57,7 +57,13 @@ packetsOf c = readOut (answerOf c .fields .arrival) (answerOf c .fields .packets
 -- What an accepted call says of its channel, master loss aside.
 abbrev pub reportOf : Call → Report
 reportOf c =
-    record { arrival = answerOf c .fields .arrival; lost = answerOf c .fields .lost; headers = answerOf c .fields .headers; packets = packetsOf c }
+    record {
+      arrival = answerOf c .fields .arrival;
+      lost = answerOf c .fields .lost;
+      headers = answerOf c .fields .headers;
+      packets =
+          packetsOf c;
+    }
 
 -- Whether a call took a frame of channel v.
 abbrev pub took : ℕ → Call → Bool

@@ -50,7 +50,8 @@ refusesAll os = []
 abbrev pub joinsAtFirst : List Offer → List Report
 joinsAtFirst [] = []
 joinsAtFirst (o ∷ os) =
-    report (o .arrival) (step (o .arrival) fresh (o .frame)) ∷ map (λ (p : Offer). record { arrival = p .arrival; lost = Known 0; headers = 0; packets = [] }) os
+    report (o .arrival) (step (o .arrival) fresh (o .frame)) ∷ map
+    (λ (p : Offer). record { arrival = p .arrival; lost = Known 0; headers = 0; packets = [] }) os
 
 -- It invents losses: after the first frame, one more than there was, and then goes by rule 1.
 abbrev pub invented : Option ℕ → ℕ → Loss
@@ -64,7 +65,8 @@ inventsLosses os =
 
 -- It tells the rules' losses otherwise.
 abbrev pub retelling : (Loss → Loss) → List Offer → List Report
-retelling tell os = map (λ (r : Report). record { arrival = r .arrival; lost = tell (r .lost); headers = r .headers; packets = r .packets }) (run fresh os)
+retelling tell os =
+    map (λ (r : Report). record { arrival = r .arrival; lost = tell (r .lost); headers = r .headers; packets = r .packets }) (run fresh os)
 
 -- It withholds losses: none, wherever there is a last count.
 abbrev pub withheld : Loss → Loss
@@ -101,7 +103,9 @@ readsC os =
 
 -- It tells other arrival numbers of the packets that the rules hand out: of the frame with the first octet for the last, and the reverse.
 abbrev pub renumbering : (Handed → Handed) → List Offer → List Report
-renumbering tell os = map (λ (r : Report). record { arrival = r .arrival; lost = r .lost; headers = r .headers; packets = map tell (r .packets) }) (run fresh os)
+renumbering tell os =
+    map (λ (r : Report). record { arrival = r .arrival; lost = r .lost; headers = r .headers; packets = map tell (r .packets) })
+    (run fresh os)
 
 abbrev pub firstForLast : List Offer → List Report
 firstForLast os = renumbering (λ (p : Handed). record { first = p .first; arrival = p .first; packet = p .packet }) os

@@ -1,10 +1,10 @@
 -- Lines in any order: the list, two packets, one packet again, and a conflict.
-use Prim.Native.Nat.{ℕ, _<_}
+use Prim.Native.Nat.{ℕ}
 use native.Mathlib.Omega.{arith}
 use mathlib.Core.Path.{_≡_, refl, sym, ap, subst, _∙_}
-use mathlib.Core.Bool.{Bool, true, false, not}
+use mathlib.Core.Bool.{Bool, true, false}
 use mathlib.Core.Logic.{_⊎_, inl, inr}
-use mathlib.Core.List.{List, [], _∷_, map, List·Memᴰ, List·Memᴰ·head, List·Memᴰ·tail}
+use mathlib.Core.List.{List, [], _∷_, List·Memᴰ, List·Memᴰ·head, List·Memᴰ·tail}
 use mathlib.Core.List.{List·Memᴰ·not-nil, List·Memᴰ·cases-cons, List·Memᴰ·eq-of-singleton}
 use mathlib.Core.List.{List·Permᴰ, List·Permᴰ·nil, List·Permᴰ·cons, List·Permᴰ·swap, List·Permᴰ·trans, Permᴰ·symm}
 use borrow.Author.Tests.{ne-eqb}
@@ -29,7 +29,8 @@ use Rattle.about_image.proofs.Filling.{fills}
 use Rattle.about_image.proofs.One.{one-image}
 
 -- a member of a list is one of the list in another order
-head-moved : {a x y : Arrived} {s t : List Arrived} → x ≡ y → (List·Memᴰ a s → List·Memᴰ a t) → (a ≡ x) ⊎ List·Memᴰ a s → List·Memᴰ a (y ∷ t)
+head-moved : {a x y : Arrived} {s t : List Arrived} → x ≡ y → (List·Memᴰ a s → List·Memᴰ a t) → (a ≡ x) ⊎ List·Memᴰ a s → List·Memᴰ a
+    (y ∷ t)
 head-moved e f (inl q) = List·Memᴰ·head (q ∙ e)
 head-moved e f (inr m) = List·Memᴰ·tail (f m)
 
@@ -136,7 +137,8 @@ module _ (wanted : ℕ) (held : Image) (a b : Arrived) (p : Accepted wanted held
   unfolding placing
   refuses {y} {j} c =
       let o : observed y j ≡ observed (answers.Refused lineHeld) (placed held (lineTo a)) =
-      c ∙ placed-or-held wanted (placed held (lineTo a)) b (ready wanted held b q .line) (placed-room held (lineTo a) (fits wanted held a r))
+      c ∙ placed-or-held wanted (placed held (lineTo a)) b (ready wanted held b q .line)
+      (placed-room held (lineTo a) (fits wanted held a r))
       ∙ sym (picked _ _ _ held-otherwise) in
       let k = observed-apart o in
       (ap (λ z. z .0) k, ap (λ z. z .1) k)

@@ -12,7 +12,7 @@ use Rattle.octets.specs.Numbers.{at}
 use Rattle.report.specs.Report.{pixelsOf}
 use Rattle.image.specs.Line.{imageLines, Image, number, placed}
 use Rattle.image.specs.declared.Placed.{Placed}
-use Rattle.about_image.specs.Placings.{Arrived, line, row, Alike, Agreeing, Placings, done, next, Filled}
+use Rattle.about_image.specs.Placings.{Arrived, line, row, Alike, Placings, done, next, Filled}
 use Rattle.about_image.specs.Placings.{Number, of-held, of-packet, Smallest, smallest, none}
 use Rattle.about_image.specs.AnyOrder.{answerOf, Fills}
 use Rattle.about_image.proofs.Rows.{placed-length, row-placed, row-other, beyond-placed}

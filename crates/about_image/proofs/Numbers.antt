@@ -2,7 +2,7 @@
 use Prim.Native.Nat.{ℕ, min, _≤_, _<_}
 use native.Mathlib.Omega.{arith}
 use native.Mathlib.Decide.{decLt, ℕ-discrete}
-use mathlib.Core.Path.{_≡_, refl, sym, ap, subst, _∙_}
+use mathlib.Core.Path.{_≡_, refl, sym, _∙_}
 use mathlib.Core.Logic.{_⊎_, inl, inr}
 use borrow.Author.Tests.{eq-eqb, ne-eqb}
 use Rattle.octets.proofs.Choices.{picked, passed}
@@ -44,7 +44,8 @@ lower held arrival h = by (ℕ-discrete held 0)
         which k p (no l) = inl (omega (arith, l))
 
 -- The smallest of some numbers is that of others, if all of them are among those and each of those is at least one of them.
-pub smallest-of : {N M : ℕ → Type 0} {k : ℕ} → ((m : ℕ) → N m → M m) → ((m : ℕ) → M m → (j : ℕ) × N j × (j ≤ m)) → Smallest N k → Smallest M k
+pub smallest-of : {N M : ℕ → Type 0} {k : ℕ} → ((m : ℕ) → N m → M m) → ((m : ℕ) → M m → (j : ℕ) × N j × (j ≤ m)) → Smallest N k
+    → Smallest M k
 smallest-of f g (smallest h l) = smallest (f _ h) (λ m p. let b = g m p in omega (arith, l (b .0) (b .1), b .2))
 smallest-of f g (none h e) = none (λ m p. let b = g m p in h (b .0) (b .1)) e
 

@@ -1,17 +1,17 @@
 -- `Filled` says one image, and the same one of a list in any order.
-use Prim.Native.Nat.{ℕ, suc, zero, _+_, _*_, _-_, _≤_, _<_}
+use Prim.Native.Nat.{ℕ, suc, zero, _+_, _-_, _≤_, _<_}
 use native.Mathlib.Omega.{arith}
 use native.Mathlib.Decide.{decLt}
 use mathlib.Core.Path.{_≡_, refl, sym, ap, _∙_}
 use mathlib.Core.Logic.{_⊎_, inl, inr}
-use mathlib.Core.List.{List, [], _∷_, _++_, List·Memᴰ}
+use mathlib.Core.List.{List, List·Memᴰ}
 use lib.ListN.{length, take, drop, getD, take-append-drop}
 use lib.Seq.{take-add, ext-getD, getD-drop}
 use Rattle.octets.specs.Numbers.{at}
 use Rattle.octets.specs.Parts.{part}
 use Rattle.octets.proofs.Placing.{part-some}
 use Rattle.image.specs.Line.{linePixels, imageLines, imageOctets, start, Image, Room}
-use Rattle.about_image.specs.Placings.{Arrived, line, row, Number, of-held, of-packet, Filled}
+use Rattle.about_image.specs.Placings.{Arrived, row, Number, of-held, of-packet, Filled}
 use Rattle.about_image.specs.AnyOrder.{Same, OneImage}
 use Rattle.about_image.proofs.Numbers.{smallest-of, one-smallest}
 use Rattle.about_image.proofs.Filling.{Has, HasNone, has}
@@ -34,7 +34,8 @@ module _ (x y : List ℕ) (l : length x ≡ length y) (room : imageOctets ≤ le
       sym (take-append-drop imageOctets x) ∙ rw (heads imageLines (omega arith), d) refl ∙ take-append-drop imageOctets y
 
 -- line numbers one by one
-by-numbers : (x y : List ℕ) → length x ≡ length y → ((n : ℕ) → n < imageLines → at x n ≡ at y n) → drop imageLines x ≡ drop imageLines y → x ≡ y
+by-numbers : (x y : List ℕ) → length x ≡ length y → ((n : ℕ) → n < imageLines → at x n ≡ at y n) → drop imageLines x ≡ drop imageLines y
+    → x ≡ y
 by-numbers x y l numbers d = ext-getD 0 x y l (λ n h. by n (decLt n imageLines))
   where
     by : (n : ℕ) → Dec (n < imageLines) → getD x n 0 ≡ getD y n 0

@@ -1,7 +1,7 @@
 -- What `place` accepts is a line packet of the wanted image; it is placed on any image with room that does not hold its line otherwise.
 use Prim.Native.Nat.{ℕ, _<_}
 use native.Mathlib.Omega.{arith}
-use mathlib.Core.Path.{_≡_, refl, sym, ap, subst, _∙_}
+use mathlib.Core.Path.{_≡_, refl, sym, ap, _∙_}
 use mathlib.Core.Bool.{Bool, true, false, false≢true}
 use mathlib.Core.List.{List}
 use lib.ListN.{length}
@@ -10,21 +10,21 @@ use borrow.Author.Tests.{le-ltb, eq-eqb, ne-eqb, ltb-false, eqb-true, eqb-false,
 use Rattle.octets.specs.Pick.{pick}
 use Rattle.octets.proofs.Choices.{picks}
 use Rattle.octets.proofs.Tests.{or-left, or-right}
-use Rattle.answer.specs.Told.{Told, accept}
+use Rattle.answer.specs.Told.{accept}
 use Rattle.packet.specs.declared.Packet.{Packet}
 use Rattle.report.specs.Report.{readReport, contentOf, pixelsOf, lineOf}
 use Rattle.report.specs.declared.Content.{Content}
 use Rattle.report.specs.declared.Content.the-variants as content
-use Rattle.report.specs.declared.Line.{Line as ReportLine}
 use Rattle.report.specs.declared.Report.{Report}
 use Rattle.report.proofs.Accepted.{accepted}
 use Rattle.report.proofs.Tells.{report-whole}
 use Rattle.image.specs.Line.{imageLines, imageOctets, Image, Room, Line, Fits, heldOtherwise}
-use Rattle.image.specs.Line.{lineOf as imageLine}
 use Rattle.image.specs.Placing.{Outcome, placing, brought, reported, outcome}
 use Rattle.image.specs.Back.{lineReport}
 use Rattle.image.proofs.Brings.{fits}
 use Rattle.about_image.specs.Placings.{Arrived, line, Accepted}
+use Rattle.report.specs.declared.Line.{Line as ReportLine}
+use Rattle.image.specs.Line.{lineOf as imageLine}
 
 -- A choice of which P holds, as it does not of the first, or not of the second.
 second : {A : Type 0} (P : A → Type 0) (b : Bool) (x y : A) → P (pick b x y) → (P x → ⊥) → (b ≡ false) × P y

@@ -2,11 +2,11 @@
 use Prim.Native.Nat.{ℕ, _+_, _-_, _≤_, _<_}
 use native.Mathlib.Omega.{arith}
 use native.Mathlib.Decide.{decLt}
-use mathlib.Core.Path.{_≡_, refl, sym, ap, _∙_}
+use mathlib.Core.Path.{_≡_, sym, ap, _∙_}
 use mathlib.Core.List.{List, _++_, append-assoc}
 use lib.ListN.{length, take, drop, length-append, length-drop}
 use lib.Seq.{length-take-le, take-at, drop-at, take-append-seam, take-take, drop-drop, take-add}
-use Rattle.octets.specs.Parts.{part, overlay}
+use Rattle.octets.specs.Parts.{overlay}
 use Rattle.octets.proofs.Placing.{part-some}
 use Rattle.image.specs.Line.{linePixels, imageLines, imageOctets, start, Image, Line, placed, Fits}
 use Rattle.about_image.specs.Placings.{row}

@@ -1,26 +1,25 @@
 -- One placing: what it answers and leaves, and that a packet which agrees with it is as welcome behind it.
-use Prim.Native.Nat.{ℕ, _≤_, _<_}
+use Prim.Native.Nat.{ℕ, _<_}
 use native.Mathlib.Omega.{arith}
 use native.Mathlib.Decide.{ℕ-discrete}
 use mathlib.Core.Path.{_≡_, refl, sym, ap, _∙_}
 use mathlib.Core.Bool.{Bool, true, false, not, _&&_}
 use mathlib.Core.List.{List}
-use lib.ListN.{length, length-set}
+use lib.ListN.{length-set}
 use lib.Seq.{getD-set-same, getD-set-other}
 use lib.Dec.{eqb}
 use Rattle.octets.specs.Numbers.{at}
 use Rattle.octets.proofs.Choices.{passed}
 use Rattle.report.specs.Report.{pixelsOf}
-use Rattle.octets.specs.Same.{same}
 use Rattle.image.specs.Line.{imageLines, Image, Room, Line, Fits, heldOtherwise, number, placed}
-use Rattle.image.specs.Placing.{Outcome, observed, placing, Places}
+use Rattle.image.specs.Placing.{observed, placing, Places}
 use Rattle.image.specs.declared.Placed.{Placed}
 use Rattle.octets.proofs.Comparing.{same-is-equal}
 use Rattle.image.proofs.Told.{observed-apart}
 use Rattle.about_image.specs.Placings.{Arrived, line, row, Alike}
 use Rattle.about_image.specs.AnyOrder.{answerOf}
 use Rattle.about_image.proofs.Rows.{placed-length, row-placed, row-other}
-use Rattle.about_image.proofs.Packets.{lineTo, LinePacket, Ready, placed-or-held, packet-fits}
+use Rattle.about_image.proofs.Packets.{lineTo, Ready, placed-or-held, packet-fits}
 
 and-no : (b : Bool) → (b && false) ≡ false
 and-no true = refl

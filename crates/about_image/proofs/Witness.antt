@@ -2,9 +2,9 @@
 use Prim.Native.Nat.{ℕ, _≤_, _<_}
 use native.Mathlib.Omega.{arith}
 use mathlib.Core.Path.{_≡_, refl, sym, ap, subst⁻¹, _∙_}
-use mathlib.Core.Bool.{Bool, true, false}
+use mathlib.Core.Bool.{false}
 use mathlib.Core.Logic.{_⊎_, inl, inr}
-use mathlib.Core.List.{List, [], _∷_, List·Memᴰ, List·Memᴰ·head, List·Memᴰ·tail, List·Memᴰ·cases-cons, List·Memᴰ·eq-of-singleton, List·Permᴰ}
+use mathlib.Core.List.{List, [], _∷_, List·Memᴰ, List·Memᴰ·head, List·Memᴰ·tail, List·Memᴰ·cases-cons, List·Memᴰ·eq-of-singleton}
 use lib.Dec.{ltb}
 use borrow.Author.Tests.{le-ltb, eq-eqb}
 use Rattle.octets.specs.Numbers.{at}
@@ -13,16 +13,13 @@ use Rattle.answer.specs.Told.{accept}
 use Rattle.report.specs.Limits.{lastLine}
 use Rattle.report.specs.Table.{imageLine}
 use Rattle.report.specs.Report.{pixelsOf}
-use Rattle.report.specs.Report.{lineOf as reportLine}
 use Rattle.report.specs.Write.{reportWrong}
 use Rattle.report.specs.Back.{ReadBack}
-use Rattle.report.specs.declared.Line.{Line as ReportLine}
 use Rattle.report.proofs.Accepted.{accepted}
 use Rattle.report.proofs.Back.{reads-back}
 use Rattle.image.specs.Line.{imageLines, Image, heldOtherwise}
 use Rattle.image.specs.Placing.{Outcome, placing}
 use Rattle.image.specs.Back.{lineReport}
-use Rattle.image.specs.declared.Placed.{Placed}
 use Rattle.about_image.specs.Placings.{Arrived, line, row, Accepted, Alike, Agreeing, Filled}
 use Rattle.about_image.specs.Placings.{Number, of-held, of-packet, Smallest, smallest, none}
 use Rattle.about_image.specs.AnyOrder.{Same}
@@ -32,6 +29,8 @@ use Rattle.about_image.proofs.Packets.{LinePacket, own-line, placed-or-
 use Rattle.about_image.proofs.Filling.{fills}
 use Rattle.about_image.proofs.One.{refilled}
 use Rattle.about_image.proofs.AnyOrder.{reordered, agree-in-order}
+use Rattle.report.specs.Report.{lineOf as reportLine}
+use Rattle.report.specs.declared.Line.{Line as ReportLine}
 
 zero-or-one : _≡_ {A = ℕ} 0 1 → ⊥
 zero-or-one e = omega arith
@@ -103,7 +102,8 @@ module _ (held : Image) (empty : Empty held) where
 
   -- the line, the pixels and the number of each
   abbrev Said : Arrived → Type 0
-  Said a = ((line a ≡ 0) × (pixelsOf (a .packet) ≡ all 1) × (3 ≤ a .arrival)) ⊎ ((line a ≡ 1) × (pixelsOf (a .packet) ≡ all 2) × (a .arrival ≡ 4))
+  Said a = ((line a ≡ 0) × (pixelsOf (a .packet) ≡ all 1) × (3 ≤ a .arrival)) ⊎
+      ((line a ≡ 1) × (pixelsOf (a .packet) ≡ all 2) × (a .arrival ≡ 4))
 
   said : (a : Arrived) → List·Memᴰ a three → Said a
   said =
@@ -141,17 +141,20 @@ module _ (held : Image) (empty : Empty held) where
       by (inl s) = inl (sym e ∙ s .0, omega (arith, s .2, k))
       by (inr s) = inr (sym e ∙ s .0, sym k ∙ s .2)
 
-  numbered : (after : Image) → Filled held three after → (n k : ℕ) → n < imageLines → Smallest (Number held three n) k → at (after .lines) n ≡ k
+  numbered : (after : Image) → Filled held three after → (n k : ℕ) → n < imageLines → Smallest (Number held three n) k → at
+      (after .lines) n ≡ k
   numbered after f n k h s = one-smallest (f .numbered n h) s
 
   filled : (after : Image) → Filled held three after → Three held after
   filled after f =
       record {
-        first = ap (row after) (sym (at-line 0 1 9 first-below)) ∙ f .given (lineOf 0 1 9) (List·Memᴰ·head refl) ∙ with-pixels 0 1 9 first-below;
+        first = ap (row after) (sym (at-line 0 1 9 first-below)) ∙ f .given (lineOf 0 1 9) (List·Memᴰ·head refl)
+            ∙ with-pixels 0 1 9 first-below;
         first-number = numbered after f 0 3 first-below
             (smallest (of-packet (lineOf 0 1 3) (List·Memᴰ·tail (List·Memᴰ·tail (List·Memᴰ·head refl))) (at-line 0 1 3 first-below) refl)
             (λ m p. least m (numbers 0 m first-below p)));
-        second = ap (row after) (sym (at-line 1 2 4 second-below)) ∙ f .given (lineOf 1 2 4) (List·Memᴰ·tail (List·Memᴰ·head refl)) ∙ with-pixels 1 2 4 second-below;
+        second = ap (row after) (sym (at-line 1 2 4 second-below)) ∙ f .given (lineOf 1 2 4) (List·Memᴰ·tail (List·Memᴰ·head refl))
+            ∙ with-pixels 1 2 4 second-below;
         second-number = numbered after f 1 4 second-below
             (smallest (of-packet (lineOf 1 2 4) (List·Memᴰ·tail (List·Memᴰ·head refl)) (at-line 1 2 4 second-below) refl)
             (λ m p. alone m (numbers 1 m second-below p)));

@@ -1,15 +1,13 @@
 -- What is listed of a stream is the lines of what it holds.
 use Prim.Native.Nat.{ℕ}
-use mathlib.Core.Path.{_≡_, refl, sym, ap, _∙_}
+use mathlib.Core.Path.{_≡_, refl, ap, _∙_}
 use mathlib.Core.List.{List, [], _∷_, _++_, map, append-nil}
 use mathlib.Core.Bool.{Bool, true, false}
 use lib.ListN.{length}
 use Rattle.octets.specs.Pick.{pick}
 use Rattle.stretch.specs.Stretch.{Stretch, mostKept, clipped}
 use Rattle.kiss.specs.Stream as kiss
-use Rattle.kiss.proofs.Streaming.{finds-stream as kiss-found}
 use Rattle.rawbits.specs.Recording as rawbits
-use Rattle.rawbits.proofs.Finding.{finds-stream as bits-found}
 use Rattle.source.specs.Found.{Found, offers, ofStream, foundIn}
 use Rattle.source.specs.Scan.{freshKiss, freshBits}
 use Rattle.source.specs.declared.Source.{Source}
@@ -21,6 +19,8 @@ use Rattle.about_streams.proofs.Carried.{clipped-offer}
 use Rattle.listing_lines.specs.Text.{header}
 use Rattle.listing.specs.Listing.{made, outcomeText, itemsText, listed}
 use Rattle.about_stream_listings.specs.Streamed.{Lists, ListsKiss, ListsBits}
+use Rattle.kiss.proofs.Streaming.{finds-stream as kiss-found}
+use Rattle.rawbits.proofs.Finding.{finds-stream as bits-found}
 
 -- what a reader does not keep of a frame that is too long changes no line
 same-lines : (s : Session) (xs : List Stretch) → itemsText s (map offers (map clipped xs)) ≡ itemsText s (map offers xs)

@@ -1,4 +1,4 @@
--- What is listed of the two streams that carried works out (carried specs/Worked).
+-- What is listed of the two streams that about_streams works out (about_streams specs/Worked).
 use Prim.Native.Nat.{ℕ, _+_}
 use mathlib.Core.Path.{_≡_}
 use mathlib.Core.List.{List, [], _∷_, _++_}

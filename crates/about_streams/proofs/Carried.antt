@@ -11,7 +11,6 @@ use borrow.Author.Tests.{ltb-true, ltb-false}
 use Rattle.octets.proofs.Choices.{picks}
 use Rattle.octets.proofs.Choices as choices
 use Rattle.answer.specs.Told.{Told}
-use Rattle.answer.specs.Refusals as no
 use Rattle.frame.specs.Limits.{leastLength, greatestLength}
 use Rattle.frame.specs.Frame.{readFrame}
 use Rattle.frame.specs.Write.{fieldsWrong}

@@ -1,6 +1,6 @@
 -- The worked streams meet demand 3's hypotheses, and what comes of them.
-use Prim.Native.Nat.{ℕ, zero, suc, _+_, _≤_, _<_}
-use mathlib.Core.Path.{_≡_, refl, sym, ap, ap₂, _∙_}
+use Prim.Native.Nat.{ℕ, zero, suc, _<_}
+use mathlib.Core.Path.{_≡_, refl, ap, ap₂, _∙_}
 use mathlib.Core.Bool.{false}
 use mathlib.Core.List.{List, [], _∷_, map, flatMap}
 use native.Mathlib.Omega.{arith}
@@ -20,12 +20,12 @@ use Rattle.rules.specs.Packets.{Good}
 use Rattle.session.specs.Open.{opened}
 use Rattle.stretch.specs.Stretch.{Stretch, mostKept}
 use Rattle.sender.specs.Stream.{next}
-use Rattle.sender.specs.Sender.{Framed, sentOctets, AllWellFormed, Stream, Sender}
+use Rattle.sender.specs.Sender.{Framed, AllWellFormed, Stream, Sender}
 use Rattle.about_delivery.specs.Link.{Passing, arrives, loses, noise, arriving, fates}
 use Rattle.about_delivery.specs.Expected.{expected, expectedLosses, FewLost}
 use Rattle.about_delivery.specs.Delivered.{Delivered}
-use Rattle.about_delivery.specs.Run.{Call, offerOf, reportsOf}
-use Rattle.about_delivery.specs.Further.{refusalOf, ownRefusal}
+use Rattle.about_delivery.specs.Run.{offerOf, reportsOf}
+use Rattle.about_delivery.specs.Further.{ownRefusal}
 use Rattle.about_delivery.proofs.Lending.{callsOf, calls-run, calls-room, calls-offer}
 use Rattle.about_delivery.proofs.Refused.{refusals-told}
 use Rattle.about_delivery.proofs.MostLost.{alone-masters, alone-pieces, no-pieces}

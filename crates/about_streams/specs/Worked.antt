@@ -12,7 +12,7 @@ use Rattle.stretch.specs.Stretch.{Stretch, found, unread}
 use Rattle.sender.specs.Stream.{next, framesBy}
 use Rattle.sender.specs.Sender.{Framed, sentOctets}
 use Rattle.about_delivery.specs.Link.{Passing, arrives, loses, noise, arriving}
-use Rattle.about_delivery.specs.Delivered.{Report, handed, losses}
+use Rattle.about_delivery.specs.Delivered.{handed, losses}
 use Rattle.about_delivery.specs.Run.{Call, reportsOf}
 use Rattle.about_delivery.specs.Further.{refusalOf}
 use Rattle.about_delivery.specs.Corners.{loss, atFirst}

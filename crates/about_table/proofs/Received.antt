@@ -1,11 +1,10 @@
 -- The packet in two frames is received, and what is told of two tables.
-use Prim.Native.Nat.{ℕ, zero, suc, _+_, _<_}
+use Prim.Native.Nat.{ℕ, zero, suc, _<_}
 use native.Mathlib.Omega.{arith}
 use mathlib.Core.Path.{_≡_, refl, sym, ap, _∙_, subst}
-use mathlib.Core.Bool.{Bool, true, false, _&&_, true≢false}
+use mathlib.Core.Bool.{Bool, true, false, true≢false}
 use mathlib.Core.List.{List, [], _∷_, _++_}
-use lib.ListN.{length}
-use lib.Dec.{eqb, lit≤, lit<}
+use lib.Dec.{lit≤, lit<}
 use borrow.Author.Tests.{eq-eqb, ne-eqb}
 use Rattle.octets.specs.Parts.{part}
 use Rattle.octets.specs.Pick.{pick}
@@ -38,7 +37,8 @@ use Rattle.about_table.specs.Example.{packet, table, row, pieces, record
 use Rattle.about_table.proofs.Runs.{of-eight}
 
 -- where the other channels hand out nothing, all is channel 0's
-nothing-refused : (x : StepAnswer) (l : Lent) → told x .accepted ≡ false → readOut (told x .fields .arrival) (told x .fields .packets) l ≡ []
+nothing-refused : (x : StepAnswer) (l : Lent) → told x .accepted ≡ false → readOut (told x .fields .arrival)
+    (told x .fields .packets) l ≡ []
 nothing-refused (answer.Accepted a) l e = absurd (true≢false e)
 nothing-refused (answer.Refused r) l e = refl
 
@@ -50,7 +50,8 @@ none-rest : (b : Bool) (r : Report) (rs : List Report) → handed (when b r ++ r
 none-rest false r rs e = e
 none-rest true r rs e = ap (λ (xs : List Handed). xs ++ handed rs) (sym (none-front (r .packets) (handed rs) e)) ∙ e
 
-only-zero : (cs : List Call) (s : Session) → Runs s cs → ((v : ℕ) → suc v < 8 → handed (reportsOf (suc v) cs) ≡ []) → handedOut cs ≡ handed (reportsOf 0 cs)
+only-zero : (cs : List Call) (s : Session) → Runs s cs → ((v : ℕ) → suc v < 8 → handed (reportsOf (suc v) cs) ≡ []) → handedOut cs ≡ handed
+    (reportsOf 0 cs)
 only-zero [] s w n = refl
 only-zero (c ∷ cs) s w n =
     by (answerOf c .accepted) refl (answerOf c .fields .channel) refl
@@ -79,7 +80,16 @@ unfolding fieldsWrong pointerWrong
 well-formed = (refl, (refl, tt))
 
 abbrev streams : (v : ℕ) → v < 8 → Stream v recording
-streams zero l = record { packets = packet 5 ∷ []; good = (good, tt); choices = next 10 ∷ next 6 ∷ []; first = 3; small = lit< tt; sent = alone-pieces 7 pieces }
+streams zero l =
+    record {
+      packets = packet 5 ∷ [];
+      good = (good, tt);
+      choices = next 10 ∷ next 6 ∷ [];
+      first = 3;
+      small = lit< tt;
+      sent = alone-pieces 7
+          pieces;
+    }
 streams (suc v) l = record { packets = []; good = tt; choices = []; first = 0; small = lit< tt; sent = no-pieces v 7 pieces }
 
 abbrev sender : Sender 2 recording

@@ -1,23 +1,19 @@
 -- What a run hands out, call by call.
-use Prim.Native.Nat.{ℕ, zero, suc, _+_, _-_, _≤_, _<_}
+use Prim.Native.Nat.{ℕ, zero, suc, _-_, _≤_, _<_}
 use native.Mathlib.Decide.{decLt}
 use native.Mathlib.Omega.{arith}
-use mathlib.Core.Path.{_≡_, refl, sym, ap, _∙_, subst}
-use mathlib.Core.Bool.{Bool, true, false, _&&_, false≢true}
+use mathlib.Core.Path.{_≡_, refl, sym, ap, _∙_}
+use mathlib.Core.Bool.{Bool, true, false, false≢true}
 use mathlib.Core.List.{List, [], _∷_, _++_, append-assoc, List·Memᴰ, Memᴰ·append-left, Memᴰ·append-right}
-use mathlib.Core.Option.{Option, none, some}
+use mathlib.Core.Option.{some}
 use lib.ListN.{length, getElem?, length-append}
-use lib.Dec.{leb, eqb}
 use borrow.Author.Tests.{le-leb, eq-eqb}
-use Rattle.octets.specs.Pick.{pick}
 use Rattle.octets.proofs.Choices.{picked, picks}
 use Rattle.answer.specs.Told.{Told}
-use Rattle.frame.specs.Frame.{readFrame, dataOf}
-use Rattle.frame.specs.declared.Frame.{Frame}
+use Rattle.frame.specs.Frame.{readFrame}
 use Rattle.frame.proofs.Accepts.{accepts}
 use Rattle.frame.proofs.Tells.{read-tells}
 use Rattle.rules.specs.Channel.{Handed}
-use Rattle.rules.specs.Bounds.{Under}
 use Rattle.session.specs.declared.Session.{Session}
 use Rattle.session.specs.declared.Accepted.{Accepted}
 use Rattle.session.specs.declared.StepAnswer.{StepAnswer}
@@ -26,7 +22,7 @@ use Rattle.session.specs.Lent.{Lent}
 use Rattle.session.specs.Step.{Outcome, refusedAt, counted, accepted, heeded, outcome, turnedAway, told, Gives}
 use Rattle.session.specs.Statements.{offered}
 use Rattle.session.proofs.Admitting.{admitted-picks}
-use Rattle.session.proofs.Few.{Few, offer-few}
+use Rattle.session.proofs.Few.{offer-few}
 use Rattle.stretch.specs.Stretch.{Stretch, found, unread}
 use Rattle.sender.specs.Sender.{when}
 use Rattle.about_delivery.specs.Delivered.{Report, handed}
@@ -61,7 +57,8 @@ offer-fair s (found x) l =
 offer-fair s (unread n) l = admitted-picks (Fair s) s l _ (λ a. counted-fair s _ (refused-fair (counted s) n 0)) (λ m e. refused-fair s m 0)
 
 -- a refusal hands nothing out
-accepted-by : (x : StepAnswer) (l : Lent) (i : ℕ) (h : Handed) → getElem? (readOut (told x .fields .arrival) (told x .fields .packets) l) i ≡ some h → told x .accepted ≡ true
+accepted-by : (x : StepAnswer) (l : Lent) (i : ℕ) (h : Handed) → getElem?
+    (readOut (told x .fields .arrival) (told x .fields .packets) l) i ≡ some h → told x .accepted ≡ true
 accepted-by (answer.Accepted a) l i h e = refl
 accepted-by (answer.Refused r) l i h e = nothing-there e
 
@@ -90,7 +87,9 @@ module _ (s : Session) (c : Call) (g : Gives (offered s (c .offer) (c .lent)) (c
 
     -- the number that the session used, and that the answer tells
     pub number-used : h .arrival ≡ c .result .session .arrival
-    number-used = under (o .session .arrival) (o .packets) i h (offer-few s (c .offer) (c .lent) .used) found-in ∙ ap (λ (x : Session). x .arrival) (sym (g .session))
+    number-used =
+        under (o .session .arrival) (o .packets) i h (offer-few s (c .offer) (c .lent) .used) found-in ∙ ap (λ (x : Session). x .arrival)
+        (sym (g .session))
 
     pub number-told : answerOf c .fields .arrival ≡ h .arrival
     number-told =
@@ -103,7 +102,9 @@ module _ (s : Session) (c : Call) (g : Gives (offered s (c .offer) (c .lent)) (c
 -- nothing is handed out under a number below the session's
 no-lower : (cs : List Call) (s : Session) → Runs s cs → (i : ℕ) (h : Handed) → getElem? (handedOut cs) i ≡ some h → s .arrival ≤ h .arrival
 no-lower [] s w i h e = nothing-there e
-no-lower (c ∷ cs) s w i h e = by (decLt _ _) (λ l. no-lower cs (c .result .session) (w .1) (i - length (packetsOf c)) h (sym (back (packetsOf c) (handedOut cs) i l) ∙ e))
+no-lower (c ∷ cs) s w i h e =
+    by (decLt _ _) (λ l. no-lower cs (c .result .session) (w .1) (i - length (packetsOf c)) h
+    (sym (back (packetsOf c) (handedOut cs) i l) ∙ e))
   where
     by : Dec (i < length (packetsOf c)) → (length (packetsOf c) ≤ i → c .result .session .arrival ≤ h .arrival) → s .arrival ≤ h .arrival
     by (yes l) next =
@@ -123,7 +124,8 @@ cut-known n (c ∷ cs) s w i h e l =
     kept m = sym (picked _ _ _ (le-leb _ _ m))
 
     by : Dec (i < length (packetsOf c)) → (length (packetsOf c) ≤ i → getElem? (handedOut cs) (i - length (packetsOf c)) ≡ some h)
-        → (getElem? (handedOut cs) (i - length (packetsOf c)) ≡ some h → getElem? (handedOut (upTo n cs)) (i - length (packetsOf c)) ≡ some h)
+        → (getElem? (handedOut cs) (i - length (packetsOf c)) ≡ some h → getElem? (handedOut (upTo n cs))
+        (i - length (packetsOf c)) ≡ some h)
         → getElem? (handedOut (upTo n (c ∷ cs))) i ≡ some h
     by (yes m) rest next =
         let f = sym (front (packetsOf c) (handedOut cs) i m) ∙ e in
@@ -132,7 +134,8 @@ cut-known n (c ∷ cs) s w i h e l =
     by (no m) rest next =
         let f = rest (omega (arith, m)) in
         let up : c .result .session .arrival ≤ n = omega (arith, no-lower cs (c .result .session) (w .1) (i - length (packetsOf c)) h f) in
-        ap (λ (x : List Call). getElem? (handedOut x) i) (kept up) ∙ back (packetsOf c) (handedOut (upTo n cs)) i (omega (arith, m)) ∙ next f
+        ap (λ (x : List Call). getElem? (handedOut x) i) (kept up) ∙ back (packetsOf c) (handedOut (upTo n cs)) i (omega (arith, m))
+        ∙ next f
 
 -- the call that handed out packet n, and its number and channel
 pub record Finds (calls : List Call) (n : ℕ) (h : Handed) : Type 0 where
@@ -148,9 +151,11 @@ more-reports false r rs h m = m
 finds : (cs : List Call) (s : Session) → Runs s cs → (i : ℕ) (h : Handed) → getElem? (handedOut cs) i ≡ some h → Finds cs (suc i) h
 finds [] s w i h e = nothing-there e
 finds (c ∷ cs) s w i h e =
-    by (decLt _ _) (λ l. finds cs (c .result .session) (w .1) (i - length (packetsOf c)) h (sym (back (packetsOf c) (handedOut cs) i l) ∙ e))
+    by (decLt _ _) (λ l. finds cs (c .result .session) (w .1) (i - length (packetsOf c)) h
+    (sym (back (packetsOf c) (handedOut cs) i l) ∙ e))
   where
-    by : Dec (i < length (packetsOf c)) → (length (packetsOf c) ≤ i → Finds cs (suc (i - length (packetsOf c))) h) → Finds (c ∷ cs) (suc i) h
+    by : Dec (i < length (packetsOf c)) → (length (packetsOf c) ≤ i → Finds cs (suc (i - length (packetsOf c))) h) → Finds (c ∷ cs)
+        (suc i) h
     by (yes l) next =
         let f = sym (front (packetsOf c) (handedOut cs) i l) ∙ e in
         let a = was-accepted s c (w .0) i h f in
@@ -192,7 +197,8 @@ pub finds-numbered : (cs : List Call) (s : Session) → Runs s cs → (n : ℕ) 
 finds-numbered cs s w zero h e = nothing-there e
 finds-numbered cs s w (suc i) h e = finds cs s w i h e
 
-pub known-numbered : (n : ℕ) (cs : List Call) (s : Session) → Runs s cs → (k : ℕ) (h : Handed) → numbered (handedOut cs) k ≡ some h → h .arrival ≤ n
+pub known-numbered : (n : ℕ) (cs : List Call) (s : Session) → Runs s cs → (k : ℕ) (h : Handed) → numbered (handedOut cs) k ≡ some h
+    → h .arrival ≤ n
     → numbered (handedOut (upTo n cs)) k ≡ some h
 known-numbered n cs s w zero h e l = nothing-there e
 known-numbered n cs s w (suc i) h e l = cut-known n cs s w i h e l

@@ -1,19 +1,18 @@
 -- The statements over a run.
 use Prim.Native.Nat.{ℕ, zero, suc, _≤_}
 use native.Mathlib.Omega.{arith}
-use mathlib.Core.Path.{_≡_, refl, sym, ap, _∙_, subst}
+use mathlib.Core.Path.{_≡_, subst}
 use mathlib.Core.List.{List, [], _∷_, List·Memᴰ}
-use mathlib.Core.Option.{Option, none, some}
+use mathlib.Core.Option.{some}
 use lib.ListN.{getElem?}
 use Rattle.rules.specs.Channel.{Handed}
-use Rattle.session.specs.declared.Session.{Session}
-use Rattle.about_delivery.specs.Run.{Call, Runs, answerOf}
+use Rattle.about_delivery.specs.Run.{Call}
 use Rattle.about_delivery.proofs.Recording.{demand-3}
 use Rattle.table.specs.Table.{Column, Row, columnsOf, rowsOf, numbered}
 use Rattle.table.specs.Statements.{Right, AllRight}
 use Rattle.table.proofs.Rights.{exactly}
-use Rattle.about_table.specs.Trained.{handedOut, upTo, PassedRow, Reading, Known, KnownAtTheClaim, Teller, NotBefore, NeverBefore}
-use Rattle.about_table.specs.Trained.{channelOf, fatesOn, Sent, SentWhole}
+use Rattle.about_table.specs.Trained.{handedOut, upTo, PassedRow, Reading, KnownAtTheClaim, NeverBefore}
+use Rattle.about_table.specs.Trained.{channelOf, fatesOn, SentWhole}
 use Rattle.about_table.proofs.Places.{nothing-there, same-there}
 use Rattle.about_table.proofs.Runs.{finds-numbered, known-numbered}
 use Rattle.about_table.proofs.Sent.{whole-of}
@@ -23,7 +22,8 @@ record RightRow (columns : List Column) (packets : List Handed) (r : Row) : Type
   before : ℕ
   right : Right columns packets before r
 
-right-at : (columns : List Column) (packets : List Handed) (before : ℕ) (rs : List Row) (i : ℕ) (r : Row) → AllRight columns packets before rs
+right-at : (columns : List Column) (packets : List Handed) (before : ℕ) (rs : List Row) (i : ℕ) (r : Row)
+    → AllRight columns packets before rs
     → getElem? rs i ≡ some r → RightRow columns packets r
 right-at columns packets before [] i r a e = nothing-there e
 right-at columns packets before (x ∷ rs) zero r a e =
@@ -64,7 +64,8 @@ known-at-the-claim s calls w table p =
       packet = its-packet table calls p;
       among = reading-in table calls p (handedOut calls) (its-number table calls p);
       known = reading-in table calls p (handedOut (upTo (p .row .claim) calls))
-          (known-numbered (p .row .claim) calls s w (p .row .packet) (its-packet table calls p) (its-number table calls p) (its-claim table calls p));
+          (known-numbered (p .row .claim) calls s w (p .row .packet) (its-packet table calls p) (its-number table calls p)
+          (its-claim table calls p));
     }
 
 pub never-before : NeverBefore

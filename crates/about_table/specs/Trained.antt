@@ -1,8 +1,8 @@
 -- Document 02, M-112, over a run of a session: what a row of a table that passes is about. A run is any in which each call did what
 -- `Session::step` or `Session::turn_away` promises, on any session, and so from any opening; the packets are those of all its channels.
-use Prim.Native.Nat.{ℕ, _+_, _-_, _≤_, _<_}
+use Prim.Native.Nat.{ℕ, _-_, _≤_, _<_}
 use mathlib.Core.Path.{_≡_}
-use mathlib.Core.Bool.{Bool, true}
+use mathlib.Core.Bool.{true}
 use mathlib.Core.List.{List, [], _∷_, _++_}
 use mathlib.Core.Option.{some}
 use lib.ListN.{length, drop, getD, getElem?}
@@ -53,7 +53,8 @@ pub record Known (table : List ℕ) (calls : List Call) (r : Row) : Type 0 where
   pub known : Reading table (handedOut (upTo (r .claim) calls)) r packet
 
 abbrev pub KnownAtTheClaim : Type 0
-KnownAtTheClaim = (s : Session) (calls : List Call) → Runs s calls → (table : List ℕ) (p : PassedRow table calls) → Known table calls (p .row)
+KnownAtTheClaim =
+    (s : Session) (calls : List Call) → Runs s calls → (table : List ℕ) (p : PassedRow table calls) → Known table calls (p .row)
 
 -- The frame that told a packet, number n of the run: it was accepted, and with it the packet was handed out.
 pub record Teller (calls : List Call) (n : ℕ) (h : Handed) : Type 0 where
@@ -73,7 +74,8 @@ pub record NotBefore (table : List ℕ) (calls : List Call) (r : Row) : Type 0 w
   pub claim : answerOf (teller .call) .fields .arrival ≤ r .claim
 
 abbrev pub NeverBefore : Type 0
-NeverBefore = (s : Session) (calls : List Call) → Runs s calls → (table : List ℕ) (p : PassedRow table calls) → NotBefore table calls (p .row)
+NeverBefore =
+    (s : Session) (calls : List Call) → Runs s calls → (table : List ℕ) (p : PassedRow table calls) → NotBefore table calls (p .row)
 
 -- ---- of a sender by the rules, received as demand 3 says
 

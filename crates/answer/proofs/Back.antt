@@ -3,7 +3,6 @@ use Prim.Native.Nat.{ℕ, _<_}
 use mathlib.Core.Path.{_≡_, sym, ap, subst, _∙_}
 use mathlib.Core.List.{List}
 use mathlib.Core.Bool.{false}
-use lib.ListN.{length, take}
 use Rattle.octets.specs.Numbers.{at}
 use Rattle.answer.specs.Told.{Told, accept}
 use Rattle.answer.specs.Writer.{Wrote, Gave}

@@ -1,4 +1,5 @@
--- Document 01, 'Numbers given when something is turned away', in its order; of document 02, 120 to 123 in the place of 12, and the others behind.
+-- Document 01, 'Numbers given when something is turned away', in its order; of document 02, 120 to 123 in the place of 12, and the others
+-- behind.
 use Prim.Native.Nat.{ℕ}
 
 -- Under 501 octets, or under 16 lengths or 16 first arrival numbers lent.
@@ -13,7 +14,8 @@ timeLength = 2
 abbrev pub arrivals : ℕ
 arrivals = 3
 
--- A session with t above 8, or with a channel that holds above 250 octets, or any while out of step, or six or more whose packet's length is outside 16 to 251 or not above the number held.
+-- A session with t above 8, or with a channel that holds above 250 octets, or any while out of step, or six or more whose packet's length
+-- is outside 16 to 251 or not above the number held.
 abbrev pub session : ℕ
 session = 4
 

@@ -8,7 +8,8 @@ pub const ROOM: u16 = 1;
 pub const TIME_LENGTH: u16 = 2;
 // Arrival number 4,294,967,295 already used.
 pub const ARRIVALS: u16 = 3;
-// A session with t above 8, or with a channel that holds above 250 octets, or any while out of step, or six or more whose packet's length is outside 16 to 251 or not above the number held.
+// A session with t above 8, or with a channel that holds above 250 octets, or any while out of step, or six or more whose packet's length
+// is outside 16 to 251 or not above the number held.
 pub const SESSION: u16 = 4;
 
 // Frame shorter than 23 + t or longer than 274.

@@ -1,8 +1,8 @@
 -- The form of all that the reads brought.
 use Prim.Native.Nat.{ℕ}
-use mathlib.Core.Path.{_≡_, refl, sym, ap, _∙_, subst}
+use mathlib.Core.Path.{_≡_, refl, ap, _∙_, subst}
 use mathlib.Core.Bool.{Bool, true}
-use mathlib.Core.List.{List, [], _++_}
+use mathlib.Core.List.{List, []}
 use Rattle.window.specs.Window.{hand, Refills, unread}
 use Rattle.window.specs.Turns.{Turns, none, more, Loops}
 use Rattle.window.specs.declared.Refilled.{Refilled}
@@ -22,7 +22,8 @@ grew s {buffer′ = buffer′} g e h k d =
 -- before the first
 pub at-start : {f : Form} {r : Refilled} → f ≡ known [] → r ≡ unread → _≡_ {A = Reading} (record { form = f; read = r; going = true }) start
 at-start {r = r} e d =
-    ap (λ (x : Form). record { form = x; read = r; going = true }) e ∙ ap (λ (x : Refilled). record { form = known []; read = x; going = true }) d
+    ap (λ (x : Form). record { form = x; read = r; going = true }) e ∙ ap
+    (λ (x : Refilled). record { form = known []; read = x; going = true }) d
 
 pub begun : {s : Reading} {buffer : List ℕ} {n : ℕ} {q : Place} → s ≡ start → Loops goingAt GrowsAt (place s buffer) n q
     → Loops goingAt GrowsAt (place start buffer) n q
@@ -32,7 +33,8 @@ all-kept : {p q : Place} {n : ℕ} {text : List ℕ} → p .reading .form ≡ kn
     → q .reading .form ≡ known (broughtBy t)
 all-kept e none = e
 all-kept e (more t g x) =
-    x .grows .grows ∙ ap (λ (f : Form). grown f (x .grows .refills .piece)) (all-kept e t) ∙ keeps-on (broughtBy t) (x .grows .refills .piece)
+    x .grows .grows ∙ ap (λ (f : Form). grown f (x .grows .refills .piece)) (all-kept e t) ∙ keeps-on (broughtBy t)
+    (x .grows .refills .piece)
 
 pub form-of-all : FormOfAll
 form-of-all buffer r buffer′ l = all-kept refl (l .made .turns)

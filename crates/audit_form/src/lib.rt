@@ -1,6 +1,6 @@
 // The first reading of a training table: its form, read by a descriptor in pieces, up to the file's end.
 //
-// What is kept of the pieces is training's. Here is the loop: a read after another, until one brings nothing or fails.
+// Crate table says what is kept of the pieces. Here is the loop: one read after another, until one brings nothing or fails.
 ghost use mathlib.Core.Path.{_≡_};
 ghost use Rattle.audit_form.specs.Reads.{brought, Grows, Looped};
 use table::Form;

@@ -1,21 +1,21 @@
 -- A verdict's line that was laid where it has room.
-use Prim.Native.Nat.{ℕ, _+_, _≤_, _<_}
-use mathlib.Core.Path.{_≡_, refl, sym, ap, _∙_}
+use Prim.Native.Nat.{ℕ, _+_, _≤_}
+use mathlib.Core.Path.{_≡_, refl, ap}
 use mathlib.Core.List.{List, [], _∷_, _++_, append-assoc}
 use native.Mathlib.Omega.{arith}
 use borrow.Author.Tests.{eq-eqb, ne-eqb}
-use lib.Dec.{eqb}
 use lib.ListN.{length, length-append}
 use Rattle.octets.specs.Pick.{pick}
 use Rattle.octets.specs.Parts.{put}
 use Rattle.octets.proofs.Choices.{picks}
 use Rattle.decimal.specs.Text.{longestNumber, decimal}
 use Rattle.decimal.specs.Laid.{Laid, Puts}
-use Rattle.decimal.proofs.Laid.{resaid, joined, put-laid, puts-none, puts-laid, number-laid}
+use Rattle.decimal.proofs.Laid.{resaid, joined, put-laid, puts-laid, number-laid}
 use Rattle.decimal.proofs.Short.{decimal-short}
 use Rattle.table.specs.declared.Verdict.{Verdict}
 use Rattle.table.specs.declared.Verdict.the-variants.{Passes, Faulty}
-use Rattle.audit_line.specs.Text.{badlyFormed, outOfOrder, noPacket, noValue, tooEarly, wordsOf, spoken, verdictLine, longestWords, longestVerdict, VerdictsAreShort}
+use Rattle.audit_line.specs.Text.{badlyFormed, outOfOrder, noPacket, noValue, tooEarly, wordsOf, spoken, verdictLine, longestWords}
+use Rattle.audit_line.specs.Text.{longestVerdict, VerdictsAreShort}
 
 -- the words, by the number
 module _ (n : ℕ) where
@@ -47,11 +47,13 @@ module _ (n : ℕ) where
           unfolding wordsOf pick
           no-words h = simp (ne-eqb n 70 a, ne-eqb n 71 b, ne-eqb n 72 c, ne-eqb n 73 d, ne-eqb n 74 h)
 
-pub words-laid : (n : ℕ) {words out out′ : List ℕ} {at r : ℕ} → words ≡ wordsOf n → Laid longestWords (spoken words) out at out′ r → Laid longestWords (spoken (wordsOf n)) out at out′ r
+pub words-laid : (n : ℕ) {words out out′ : List ℕ} {at r : ℕ} → words ≡ wordsOf n → Laid longestWords (spoken words) out at out′ r
+    → Laid longestWords (spoken (wordsOf n)) out at out′ r
 words-laid n e l = resaid (ap spoken e) (omega arith) l
 
 -- a text of no more octets than the words
-pub text-laid : {text out out′ : List ℕ} {at : ℕ} → at + longestWords ≤ length out → length text ≤ longestWords → out′ ≡ put out at text → Laid longestWords text out at out′ (at + length text)
+pub text-laid : {text out out′ : List ℕ} {at : ℕ} → at + longestWords ≤ length out → length text ≤ longestWords → out′ ≡ put out at text
+    → Laid longestWords text out at out′ (at + length text)
 text-laid room few e = resaid refl few (put-laid (omega (arith, room, few)) e)
 
 -- the row's number ends early enough for all that follows
@@ -78,7 +80,8 @@ faulty-laid n row room e₁ e₂ e₃ a b c d w =
     (joined (omega arith) x (joined (omega arith) y (joined (omega (arith, y .near)) z (joined (omega (arith, y .near)) u w))))
 
 -- by the verdict
-pub passes-put : {v : Verdict} {out out′ : List ℕ} {at : ℕ} → v ≡ Passes → at + longestVerdict ≤ length out → out′ ≡ put out at (verdictLine Passes)
+pub passes-put : {v : Verdict} {out out′ : List ℕ} {at : ℕ} → v ≡ Passes → at + longestVerdict ≤ length out → out′ ≡ put out at
+    (verdictLine Passes)
     → Puts longestVerdict (verdictLine v) out at out′ (at + 7)
 passes-put e room p = rw e (puts-laid room (resaid refl (omega arith) (put-laid (omega arith) p)))
 

@@ -1,4 +1,4 @@
--- README, 'audit': the verdict on a training table as one line, as ASCII codes.
+-- docs/MANUAL.md, 'Training tables': the verdict on a training table as one line, as ASCII codes.
 use Prim.Native.Nat.{ℕ, _≤_}
 use mathlib.Core.List.{List, [], _∷_, _++_}
 use lib.ListN.{length}

@@ -1,5 +1,4 @@
 // The verdict on a training table as one line of text, put into lent octets from an index on.
-ghost use mathlib.Core.Path.{_≡_};
 ghost use Prim.Native.Nat.{_+_, _≤_};
 ghost use lib.ListN.{length};
 ghost use Rattle.decimal.specs.Laid.{Laid, Puts};

@@ -20,9 +20,11 @@ Alike (p ∷ ps) [] = ⊥
 
 same-look : (c : Check) (w : List ℕ) (p q : Handed) → (p .packet ≡ q .packet) × (p .arrival ≡ q .arrival) → {l : Looked}
     → l ≡ looked c w (handed (p .packet) (p .arrival)) → l ≡ looked c w (handed (q .packet) (q .arrival))
-same-look c w p q a e = e ∙ ap (λ (x : List ℕ). looked c w (handed x (p .arrival))) (a .0) ∙ ap (λ (n : ℕ). looked c w (handed (q .packet) n)) (a .1)
+same-look c w p q a e =
+    e ∙ ap (λ (x : List ℕ). looked c w (handed x (p .arrival))) (a .0) ∙ ap (λ (n : ℕ). looked c w (handed (q .packet) n)) (a .1)
 
-looks-alike : {a : Audit} {rows piece rows′ : List ℕ} {p : Handed} {t : Turned} (q : Handed) → (p .packet ≡ q .packet) × (p .arrival ≡ q .arrival)
+looks-alike : {a : Audit} {rows piece rows′ : List ℕ} {p : Handed} {t : Turned} (q : Handed) → (p .packet ≡ q .packet) ×
+    (p .arrival ≡ q .arrival)
     → Looks a rows p t piece rows′ → Looks a rows q t piece rows′
 looks-alike {a} {rows} {p = p} q e (packet l k d) = packet l (same-look (a .check) (handOf a rows) p q e k) d
 looks-alike {a} {rows} {p = p} q e (says l v k d) = says l v (same-look (a .check) (handOf a rows) p q e k) d
@@ -34,7 +36,8 @@ unfolding pick
 alike-pick true p q ps qs a = a .1
 alike-pick false p q ps qs a = a
 
-pub going-alike : {a b : Audit} {rows piece rows′ : List ℕ} {ps : List Handed} → Going a rows ps piece b rows′ → (qs : List Handed) → Alike ps qs → Going a rows qs piece b rows′
+pub going-alike : {a b : Audit} {rows piece rows′ : List ℕ} {ps : List Handed} → Going a rows ps piece b rows′ → (qs : List Handed)
+    → Alike ps qs → Going a rows qs piece b rows′
 going-alike idle [] l = idle
 going-alike idle (q ∷ qs) l = absurd l
 going-alike (stays o) qs l = stays o

@@ -3,7 +3,7 @@ use Prim.Native.Nat.{ℕ, suc, _+_, _-_, _*_, _≤_, _<_}
 use native.Mathlib.Omega.{arith}
 use native.Mathlib.Nat.{sub-zero}
 use native.Mathlib.Numerals.{add-one}
-use mathlib.Core.Path.{_≡_, refl, sym, ap, _∙_, subst}
+use mathlib.Core.Path.{_≡_, sym, ap, _∙_, subst}
 use mathlib.Core.List.{List, [], _∷_, _++_, append-nil, append-assoc}
 use lib.ListN.{length, take, drop, drop-of-length-le}
 use lib.Seq.{drop-cons, take-nil}
@@ -18,7 +18,8 @@ use Rattle.audit_rows.specs.declared.Audit.{Audit}
 use Rattle.audit_rows.proofs.Reading.{goes-none, goes-then}
 
 -- the first i packets are done
-pub record Going (octets lengths : List ℕ) (packets arrival : ℕ) (a : Audit) (rows : List ℕ) (from i : ℕ) (b : Audit) (rows′ : List ℕ) : Type 0 where
+pub record Going (octets lengths : List ℕ) (packets arrival : ℕ) (a : Audit) (rows : List ℕ) (from i : ℕ) (b : Audit)
+    (rows′ : List ℕ) : Type 0 where
   pub past : List Handed
   pub goes : Goes a rows past b rows′
   pub cut : handedIn arrival packets octets lengths ≡ past ++ handedFrom arrival octets from (take (packets - i) (drop i lengths))
@@ -36,8 +37,10 @@ module _ (octets lengths : List ℕ) (packets arrival : ℕ) (a : Audit) (rows :
   }
 
   module _ (from i : ℕ) {b : Audit} {rows₁ : List ℕ} (g : Going octets lengths packets arrival a rows from i b rows₁) where
-    pub one-done : {packet : List ℕ} {c : Audit} {rows₂ : List ℕ} → i < packets → i < length lengths → at lengths i ≤ 65535 → packet ≡ part octets from (at lengths i)
-        → Goes b rows₁ (handed packet arrival ∷ []) c rows₂ → Going octets lengths packets arrival a rows (from + at lengths i) (i + 1) c rows₂
+    pub one-done : {packet : List ℕ} {c : Audit} {rows₂ : List ℕ} → i < packets → i < length lengths → at lengths i ≤ 65535
+        → packet ≡ part octets from (at lengths i)
+        → Goes b rows₁ (handed packet arrival ∷ []) c rows₂ → Going octets lengths packets arrival a rows (from + at lengths i)
+        (i + 1) c rows₂
     one-done {packet} h inside small p x =
         let k : ℕ = packets - (i + 1) in
         let m : packets - i ≡ suc k = omega arith in
@@ -48,9 +51,12 @@ module _ (octets lengths : List ℕ) (packets arrival : ℕ) (a : Audit) (rows :
           cut = g .cut
               ∙ ap (λ (j : ℕ). g .past ++ handedFrom arrival octets from (take j (drop i lengths))) m
               ∙ ap (λ (l : List ℕ). g .past ++ handedFrom arrival octets from (take (suc k) l)) (drop-cons lengths i 0 inside)
-              ∙ ap (λ (s : List ℕ). g .past ++ (handed s arrival ∷ handedFrom arrival octets (from + n) (take k (drop (suc i) lengths)))) (sym p)
-              ∙ ap (λ (j : ℕ). g .past ++ (handed packet arrival ∷ handedFrom arrival octets (from + n) (take k (drop j lengths)))) (sym (add-one i))
-              ∙ sym (append-assoc (g .past) (handed packet arrival ∷ []) (handedFrom arrival octets (from + n) (take k (drop (i + 1) lengths))));
+              ∙ ap (λ (s : List ℕ). g .past ++ (handed s arrival ∷ handedFrom arrival octets (from + n) (take k (drop (suc i) lengths))))
+              (sym p)
+              ∙ ap (λ (j : ℕ). g .past ++ (handed packet arrival ∷ handedFrom arrival octets (from + n) (take k (drop j lengths))))
+              (sym (add-one i))
+              ∙ sym (append-assoc (g .past) (handed packet arrival ∷ [])
+              (handedFrom arrival octets (from + n) (take k (drop (i + 1) lengths))));
           near = omega (arith, g .near);
           most = omega arith;
         }

@@ -4,3 +4,4 @@ pub mod Frames
 pub mod Alike
 pub mod Right
 pub mod Unique
+pub mod Coming

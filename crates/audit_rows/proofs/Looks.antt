@@ -1,5 +1,5 @@
 -- What a look leaves of the octets at hand, and what training's calls make of it.
-use Prim.Native.Nat.{ℕ, suc, _+_, _-_, _*_, _/_, _≤_, _<_}
+use Prim.Native.Nat.{ℕ, _+_, _-_, _*_, _/_, _≤_, _<_}
 use mathlib.Core.Path.{_≡_, refl, sym, ap, _∙_, subst}
 use mathlib.Core.Bool.{Bool, true, false, not}
 use mathlib.Core.List.{List, [], _∷_, _++_}
@@ -7,7 +7,6 @@ use native.Mathlib.Omega.{arith}
 use borrow.Author.Tests.{leb-false}
 use lib.ListN.{length, drop, length-append, length-drop}
 use lib.Seq.{drop-append-le}
-use Rattle.octets.specs.Pick.{pick}
 use Rattle.octets.proofs.Choices.{picks}
 use Rattle.rules.specs.Channel.{Handed}
 use Rattle.table.specs.Table.{Row, rowOctets, rowsIn}
@@ -59,7 +58,8 @@ look-passes c w h true e = subst (Passes c 0) (formed-looks c w h e) (passes (ro
 look-passes c w h false e =
     subst (Passes c 0) (looks-not c w h (ap not e)) (record { rows = refl; formed = refl; octets = refl; wants = λ d. absurd (not-rows d) })
 
-rows-formed : (c : Check) (w : List ℕ) (h : Handed) (b : Bool) → c .formed ≡ b → looked c w h .wanted ≡ wanted.Rows → not (c .formed) ≡ false
+rows-formed : (c : Check) (w : List ℕ) (h : Handed) (b : Bool) → c .formed ≡ b → looked c w h .wanted ≡ wanted.Rows → not
+    (c .formed) ≡ false
 rows-formed c w h true e d = ap not e
 rows-formed c w h false e d = absurd (not-rows (ap (λ (l : Looked). l .wanted) (looks-not c w h (ap not e)) ∙ d))
 
@@ -94,12 +94,15 @@ module _ (c : Check) (w : List ℕ) (h : Handed) {l : Looked} (e : l ≡ looked 
 
   module _ (d : l .wanted ≡ wanted.Rows) where
     starved : length w < l .used + 17
-    starved = subst (λ (x : Looked). x .wanted ≡ wanted.Rows → length w < x .used + 17) (sym e) (each-looks-on c w (handed (h .packet) (h .arrival)) .starved) d
+    starved =
+        subst (λ (x : Looked). x .wanted ≡ wanted.Rows → length w < x .used + 17) (sym e)
+        (each-looks-on c w (handed (h .packet) (h .arrival)) .starved) d
 
     pub rows-short : Short c w
     rows-short = omega (arith, starved, by .rows, by .octets, by .wants d)
 
-    pub rows-fewer : (x : List ℕ) → 0 < length x → 17 * (l .check .rows - l .check .row) - length (drop (l .used) w ++ x) < 17 * (c .rows - c .row) - length w
+    pub rows-fewer : (x : List ℕ) → 0 < length x → 17 * (l .check .rows - l .check .row) - length (drop (l .used) w ++ x) < 17 *
+        (c .rows - c .row) - length w
     rows-fewer x some =
         omega (arith, starved, by .rows, by .octets, by .wants d, used-inside, length-append (drop (l .used) w) x, length-drop (l .used) w)
 

@@ -1,12 +1,10 @@
 -- What the second reading comes to.
-use Prim.Native.Nat.{ℕ, zero, suc, _+_, _-_, _*_, _≤_, _<_}
-use native.Mathlib.Decide.{decLt}
+use Prim.Native.Nat.{ℕ, suc, _+_, _-_, _*_, _≤_, _<_}
 use native.Mathlib.Nat.{sub-zero}
 use native.Mathlib.Omega.{arith}
 use mathlib.Core.Path.{_≡_, refl, sym, ap, _∙_, subst}
-use mathlib.Core.Logic.{inl, inr}
-use mathlib.Core.Bool.{Bool, true, false, not, true≢false}
-use mathlib.Core.List.{List, [], _∷_, _++_, append-nil, append-assoc}
+use mathlib.Core.Bool.{Bool, true, false, true≢false}
+use mathlib.Core.List.{List, [], _∷_, _++_, append-assoc}
 use lib.ListN.{length, take, drop, length-append, length-drop}
 use lib.Seq.{length-take-le}
 use Rattle.octets.specs.Pick.{pick}
@@ -14,26 +12,25 @@ use Rattle.rules.specs.Channel.{Handed}
 use Rattle.window.specs.Window.{hand, Refills, unread}
 use Rattle.window.specs.declared.Refilled.{Refilled}
 use Rattle.window.proofs.Hands.{hand-behind, take-short}
-use Rattle.table.specs.Look.{handed, illFormed, looked, ended}
-use Rattle.table.specs.Calls.{Tells, ends}
+use Rattle.table.specs.Look.{handed, looked, ended}
 use Rattle.table.specs.declared.Verdict.{Verdict}
 use Rattle.table.specs.declared.Verdict.the-variants.{Passes}
 use Rattle.table.specs.declared.Check.{Check}
 use Rattle.table.specs.declared.Looked.{Looked}
 use Rattle.table.specs.declared.Wanted.the-variants as wanted
-use Rattle.table.proofs.Looking.{ends-not, ends-all, ends-short}
 use Rattle.audit_form.specs.Reads.{brought}
-use Rattle.audit_form.proofs.Came.{some-came, none-came}
-use Rattle.audit_rows.specs.Goes.{fresh, stopped, handOf, behind, having, turned, Looks, packet, says, more, none, Going, idle, stays, looks, missing, Filling, full, fills, dry, Ending, stood, tells, Turns, Goes, Fills, Ends}
+use Rattle.audit_form.proofs.Came.{some-came}
+use Rattle.audit_rows.specs.Goes.{fresh, stopped, handOf, behind, having, turned, Looks, packet, says, more, none, Going, idle, stays}
+use Rattle.audit_rows.specs.Goes.{looks, missing, Filling, full, fills, dry, Ending, stood, tells, Turns, Goes, Fills, Ends}
 use Rattle.audit_rows.specs.declared.Audit.{Audit}
 use Rattle.audit_rows.specs.declared.Turned.{Turned}
-use Rattle.audit_rows.proofs.Looks.{Short, used-inside, look-says, look-goes, look-waits, look-short, rows-short, rows-fewer, rows-end}
+use Rattle.audit_rows.proofs.Looks.{used-inside, rows-fewer}
 
-empty : (l : List ℕ) → length l ≡ 0 → l ≡ []
+pub empty : (l : List ℕ) → length l ≡ 0 → l ≡ []
 empty [] h = refl
 empty (x ∷ l) h = absurd (omega arith)
 
-both : {b : Bool} → b ≡ true → b ≡ false → ⊥
+pub both : {b : Bool} → b ≡ true → b ≡ false → ⊥
 both t f = true≢false (sym t ∙ f)
 
 -- no row is read yet
@@ -62,7 +59,8 @@ module _ (a : Audit) (rows packet₁ : List ℕ) (arrival : ℕ) {w : List ℕ} 
   pub turns-packet : l .wanted ≡ wanted.Packet → Turns a rows h (turned (behind a l) true) rows
   turns-packet d = record { piece = []; looks = packet l e d }
 
-  pub turns-verdict : {u : Verdict} {b : Audit} → l .wanted ≡ wanted.Nothing u → b ≡ stopped (behind a l) u → Turns a rows h (turned b true) rows
+  pub turns-verdict : {u : Verdict} {b : Audit} → l .wanted ≡ wanted.Nothing u → b ≡ stopped (behind a l) u → Turns a rows h
+      (turned b true) rows
   turns-verdict {u} d s =
       record { piece = []; looks = subst (λ (b : Audit). Looks a rows h (turned b true) [] rows) (sym s) (says l u e d) }
 
@@ -79,32 +77,40 @@ module _ (a : Audit) (rows packet₁ : List ℕ) (arrival : ℕ) {w : List ℕ} 
         let v = j ∙ ap (λ (m : ℕ). stopped (holding (behind a l) m r) u) same-have
         ∙ ap (λ (y : Verdict). stopped (having (behind a l) r) y)
         (k ∙ ap (ended (l .check)) (x ∙ ap (λ (m : ℕ). hand rows′ 0 m) same-have)) in
-        record { piece = g .piece; looks = subst (λ (y : Audit). Looks a rows h (turned y true) (g .piece) rows′) (sym v) (none l r g e d z) }
+        record {
+          piece = g .piece;
+          looks = subst (λ (y : Audit). Looks a rows h (turned y true) (g .piece) rows′) (sym v)
+              (none l r g e d z);
+        }
 
 -- ---- one after another
 
-pick-then : (d : Bool) (h : Handed) (ps hs : List Handed) → pick d ps (h ∷ ps) ++ hs ≡ pick d (ps ++ hs) (h ∷ (ps ++ hs))
+pub pick-then : (d : Bool) (h : Handed) (ps hs : List Handed) → pick d ps (h ∷ ps) ++ hs ≡ pick d (ps ++ hs) (h ∷ (ps ++ hs))
 unfolding pick
 pick-then true h ps hs = refl
 pick-then false h ps hs = refl
 
-stays-then : {a c : Audit} {rows rows₂ q : List ℕ} {qs : List Handed} (ps : List Handed) → a .over ≡ true → Going a rows qs q c rows₂ → Going a rows ps q c rows₂
+stays-then : {a c : Audit} {rows rows₂ q : List ℕ} {qs : List Handed} (ps : List Handed) → a .over ≡ true → Going a rows qs q c rows₂
+    → Going a rows ps q c rows₂
 stays-then ps o idle = stays o
 stays-then ps o (stays p) = stays o
 stays-then ps o (looks g x k) = absurd (both o g)
 
-pub going-then : {a b c : Audit} {rows rows₁ rows₂ p q : List ℕ} {ps : List Handed} (qs : List Handed) → Going a rows ps p b rows₁ → Going b rows₁ qs q c rows₂
+pub going-then : {a b c : Audit} {rows rows₁ rows₂ p q : List ℕ} {ps : List Handed} (qs : List Handed) → Going a rows ps p b rows₁
+    → Going b rows₁ qs q c rows₂
     → Going a rows (ps ++ qs) (p ++ q) c rows₂
 going-then qs idle y = y
 going-then {ps = ps} qs (stays o) y = stays-then (ps ++ qs) o y
 going-then {a} {c = c} {rows} {rows₂ = rows₂} {q = q} qs (looks {h = h} {ps} {t} {piece} {rows₁} {more = more₁} g x k) y =
     subst (λ (m : List ℕ). Going a rows (h ∷ (ps ++ qs)) m c rows₂) (sym (append-assoc piece more₁ q))
-    (looks g x (subst (λ (z : List Handed). Going (t .audit) rows₁ z (more₁ ++ q) c rows₂) (pick-then (t .done) h ps qs) (going-then qs k y)))
+    (looks g x (subst (λ (z : List Handed). Going (t .audit) rows₁ z (more₁ ++ q) c rows₂) (pick-then (t .done) h ps qs)
+    (going-then qs k y)))
 
 pub goes-none : (a : Audit) (rows : List ℕ) → Goes a rows [] a rows
 goes-none a rows = record { piece = []; going = idle }
 
-pub goes-then : {a b c : Audit} {rows rows₁ rows₂ : List ℕ} {ps qs : List Handed} → Goes a rows ps b rows₁ → Goes b rows₁ qs c rows₂ → Goes a rows (ps ++ qs) c rows₂
+pub goes-then : {a b c : Audit} {rows rows₁ rows₂ : List ℕ} {ps qs : List Handed} → Goes a rows ps b rows₁ → Goes b rows₁ qs c rows₂
+    → Goes a rows (ps ++ qs) c rows₂
 goes-then {qs = qs} x y = record { piece = x .piece ++ y .piece; going = going-then qs (x .going) (y .going) }
 
 -- Turns beside one packet: it is done with it, or not.
@@ -113,14 +119,16 @@ pub record Beside (a : Audit) (rows : List ℕ) (h : Handed) (b : Audit) (done :
   pub goes : (c : Audit) (q rows₂ : List ℕ) → Going b rows′ (pick done [] (h ∷ [])) q c rows₂ → Going a rows (h ∷ []) (piece ++ q) c rows₂
   pub goingOn : done ≡ false → b .over ≡ false
 
-looks-on : {a : Audit} {rows piece rows′ : List ℕ} {h : Handed} {t : Turned} → a .over ≡ false → Looks a rows h t piece rows′ → t .done ≡ false → t .audit .over ≡ false
+looks-on : {a : Audit} {rows piece rows′ : List ℕ} {h : Handed} {t : Turned} → a .over ≡ false → Looks a rows h t piece rows′
+    → t .done ≡ false → t .audit .over ≡ false
 looks-on g (packet l e d) f = absurd (true≢false f)
 looks-on g (says l v e d) f = absurd (true≢false f)
 looks-on g (more l r x e d s) f = g
 looks-on g (none l r x e d z) f = absurd (true≢false f)
 
 module _ (a : Audit) (rows : List ℕ) (h : Handed) where
-  over-back : (b : Bool) → a .over ≡ b → (c : Audit) (q rows₂ : List ℕ) → Going a rows (pick b [] (h ∷ [])) q c rows₂ → Going a rows (h ∷ []) q c rows₂
+  over-back : (b : Bool) → a .over ≡ b → (c : Audit) (q rows₂ : List ℕ) → Going a rows (pick b [] (h ∷ [])) q c rows₂ → Going a rows
+      (h ∷ []) q c rows₂
   unfolding pick
   over-back true e c q rows₂ k = stays-then (h ∷ []) e k
   over-back false e c q rows₂ k = k
@@ -128,7 +136,8 @@ module _ (a : Audit) (rows : List ℕ) (h : Handed) where
   pub no-turn : Beside a rows h a (a .over) rows
   no-turn = record { piece = []; goes = over-back (a .over) refl; goingOn = λ e. e }
 
-  pub one-turn : {b : Audit} {done : Bool} {t : Turned} {rows₁ rows₂ : List ℕ} → Beside a rows h b done rows₁ → done ≡ false → Turns b rows₁ h t rows₂
+  pub one-turn : {b : Audit} {done : Bool} {t : Turned} {rows₁ rows₂ : List ℕ} → Beside a rows h b done rows₁ → done ≡ false
+      → Turns b rows₁ h t rows₂
       → Beside a rows h (t .audit) (t .done) rows₂
   unfolding pick
   one-turn {b} {rows₁ = rows₁} x e y = record {
@@ -153,11 +162,13 @@ unfoldable pub turnsLeft : Audit → List ℕ → Bool → ℕ
 turnsLeft a rows done = pick done 0 (suc (missing a rows))
 
 -- the octets at hand after a read
-module _ (a : Audit) (rows : List ℕ) (l : Looked) {rows′ : List ℕ} {r : Refilled} (g : Refills rows (a .at + l .used) (a .end) rows′ r) where
-  window : hand rows′ 0 (r .have) ≡ drop (l .used) (handOf a rows) ++ g .piece
+module _ (a : Audit) (rows : List ℕ) (l : Looked) {rows′ : List ℕ} {r : Refilled}
+    (g : Refills rows (a .at + l .used) (a .end) rows′ r) where
+  pub window : hand rows′ 0 (r .have) ≡ drop (l .used) (handOf a rows) ++ g .piece
   window = g .window ∙ ap (λ (x : List ℕ). x ++ g .piece) (sym (hand-behind rows (a .at) (a .end) (l .used)))
 
-looks-less : {a : Audit} {rows piece rows′ : List ℕ} {h : Handed} {t : Turned} → Looks a rows h t piece rows′ → t .done ≡ false → missing (t .audit) rows′ < missing a rows
+looks-less : {a : Audit} {rows piece rows′ : List ℕ} {h : Handed} {t : Turned} → Looks a rows h t piece rows′ → t .done ≡ false → missing
+    (t .audit) rows′ < missing a rows
 looks-less (packet l e d) f = absurd (true≢false f)
 looks-less (says l v e d) f = absurd (true≢false f)
 looks-less {a} {rows} {h = h} (more l r g e d s) f =
@@ -170,7 +181,8 @@ unfolding pick
 fewer-by true m n less = omega arith
 fewer-by false m n less = omega (arith, less refl)
 
-pub fewer-turns : {b : Audit} {rows₁ : List ℕ} {done : Bool} {h : Handed} {t : Turned} {rows₂ : List ℕ} → done ≡ false → Turns b rows₁ h t rows₂
+pub fewer-turns : {b : Audit} {rows₁ : List ℕ} {done : Bool} {h : Handed} {t : Turned} {rows₂ : List ℕ} → done ≡ false
+    → Turns b rows₁ h t rows₂
     → turnsLeft (t .audit) rows₂ (t .done) < turnsLeft b rows₁ done
 unfolding turnsLeft pick
 fewer-turns {b} {rows₁} {t = t} {rows₂} e y =
@@ -187,7 +199,8 @@ pub record Filled (a : Audit) (rows : List ℕ) (b : Audit) (rows′ : List ℕ)
 pub none-filled : (a : Audit) (rows : List ℕ) → Filled a rows a rows
 none-filled a rows = record { piece = []; fills = λ c q rows₂ k. k }
 
-module _ {a b : Audit} {rows rows₁ rows₂ : List ℕ} {r : Refilled} (f : Filled a rows b rows₁) (g : Refills rows₁ (b .at) (b .end) rows₂ r) (s : length (handOf b rows₁) < 17)
+module _ {a b : Audit} {rows rows₁ rows₂ : List ℕ} {r : Refilled} (f : Filled a rows b rows₁) (g : Refills rows₁ (b .at) (b .end) rows₂ r)
+    (s : length (handOf b rows₁) < 17)
     {n : ℕ} (same-have : n ≡ r .have) where
   pub more-filled : brought r ≡ true → Filled a rows (holding b n r) rows₂
   more-filled some =
@@ -200,19 +213,25 @@ module _ {a b : Audit} {rows rows₁ rows₂ : List ℕ} {r : Refilled} (f : Fil
       })
 
   pub dry-filled : brought r ≡ false → Fills a rows (holding b n r) rows₂
-  dry-filled z = subst (λ (k : ℕ). Fills a rows (holding b k r) rows₂) (sym same-have) (record { piece = f .piece ++ g .piece; filling = f .fills _ (g .piece) rows₂ (dry r g s z) })
+  dry-filled z =
+      subst (λ (k : ℕ). Fills a rows (holding b k r) rows₂) (sym same-have)
+      (record { piece = f .piece ++ g .piece; filling = f .fills _ (g .piece) rows₂ (dry r g s z) })
 
 -- so many are at hand
-pub here-now : {input input′ : List ℕ} {at end : ℕ} {r : Refilled} → Refills input at end input′ r → r .have ≡ length (hand input′ 0 (r .have))
-here-now {input′ = input′} {r = r} g = sym (ap (λ (k : ℕ). length (take k input′)) (sub-zero (r .have)) ∙ length-take-le (r .have) input′ (g .inside))
+pub here-now : {input input′ : List ℕ} {at end : ℕ} {r : Refilled} → Refills input at end input′ r → r .have ≡ length
+    (hand input′ 0 (r .have))
+here-now {input′ = input′} {r = r} g =
+    sym (ap (λ (k : ℕ). length (take k input′)) (sub-zero (r .have)) ∙ length-take-le (r .have) input′ (g .inside))
 
-pub here-by : {input input′ : List ℕ} {at end n : ℕ} {r : Refilled} → Refills input at end input′ r → n ≡ r .have → n ≡ length (hand input′ 0 n)
+pub here-by : {input input′ : List ℕ} {at end n : ℕ} {r : Refilled} → Refills input at end input′ r → n ≡ r .have → n ≡ length
+    (hand input′ 0 n)
 here-by {input′ = input′} g e = subst (λ (k : ℕ). k ≡ length (hand input′ 0 k)) (sym e) (here-now g)
 
 pub full-filled : {a b : Audit} {rows rows₁ : List ℕ} → Filled a rows b rows₁ → 17 ≤ length (handOf b rows₁) → Fills a rows b rows₁
 full-filled {b = b} {rows₁ = rows₁} f s = record { piece = f .piece ++ []; filling = f .fills b [] rows₁ (full s) }
 
-pub more-here : {input input′ : List ℕ} {at end n : ℕ} {r : Refilled} → Refills input at end input′ r → n ≡ length (hand input at end) → brought r ≡ true → n < r .have
+pub more-here : {input input′ : List ℕ} {at end n : ℕ} {r : Refilled} → Refills input at end input′ r → n ≡ length (hand input at end)
+    → brought r ≡ true → n < r .have
 more-here {input} {at = at} {end} {r = r} g e some =
     omega (arith, here-now g, ap length (g .window), length-append (hand input at end) (g .piece), g .many, some-came r some)
 
@@ -225,114 +244,3 @@ module _ (a : Audit) (rows : List ℕ) where
   ends-told going {b} {rows₁} f x k s =
       let v = s ∙ ap (λ (y : Verdict). stopped b y) (k ∙ ap (ended (b .check)) x) in
       record { piece = f .piece; ending = subst (λ (y : Audit). Ending a rows (f .piece) y rows₁) (sym v) (tells going (f .filling)) }
-
--- ---- the verdict v that an audit comes to, if `next` is what is read of the rows from here on, `rest` is not read any more, and these
--- packets are still to be handed out, or the first of them is at hand
-
-pub data Comes (a : Audit) (rows next rest : List ℕ) (hs : List Handed) (v : Verdict) : Type 0 where
-  -- It stands, and nothing more is read.
-  stands : a .over ≡ true → a .read .failed ≡ false → next ≡ [] → v ≡ a .verdict → Comes a rows next rest hs v
-  -- Training's calls tell it from here on.
-  told : a .over ≡ false → Tells (a .check) (handOf a rows ++ (next ++ rest)) hs v → Comes a rows next rest hs v
-  -- The rows ended before the last of them: the table is shorter than at its first reading.
-  fell : a .over ≡ false → Short (a .check) (handOf a rows ++ next) → v ≡ illFormed → Comes a rows next rest hs v
-
-looks-back : {a : Audit} {rows piece rows′ : List ℕ} {h : Handed} {t : Turned} → a .over ≡ false → Looks a rows h t piece rows′ → (next rest : List ℕ) (hs : List Handed) (v : Verdict)
-    → Comes (t .audit) rows′ next rest (pick (t .done) hs (h ∷ hs)) v → Comes a rows (piece ++ next) rest (h ∷ hs) v
-unfolding pick
-looks-back g (packet l e d) next rest hs v (stands o f n q) = absurd (both o g)
-looks-back {a} {rows} {h = h} g (packet l e d) next rest hs v (told o t) =
-    told g (look-goes (a .check) (handOf a rows) h e (next ++ rest) hs d
-    (subst (λ (x : List ℕ). Tells (l .check) (x ++ (next ++ rest)) hs v) (sym (hand-behind rows (a .at) (a .end) (l .used))) t))
-looks-back {a} {rows} {h = h} g (packet l e d) next rest hs v (fell o s q) =
-    fell g (look-short (a .check) (handOf a rows) h e next
-    (subst (λ (x : List ℕ). Short (l .check) (x ++ next)) (sym (hand-behind rows (a .at) (a .end) (l .used))) s)) q
-looks-back {a} {rows} {h = h} g (says l u e d) next rest hs v (stands o f n q) =
-    told g (subst (Tells (a .check) (handOf a rows ++ (next ++ rest)) (h ∷ hs)) (sym q)
-    (look-says (a .check) (handOf a rows) h e (next ++ rest) hs d))
-looks-back g (says l u e d) next rest hs v (told o t) = absurd (true≢false o)
-looks-back g (says l u e d) next rest hs v (fell o t q) = absurd (true≢false o)
-looks-back g (more l r x e d s) next rest hs v (stands o f n q) = absurd (both o g)
-looks-back {a} {rows} {h = h} g (more l {rows′} r x e d s) next rest hs v (told o t) =
-    let y : hand rows′ 0 (r .have) ++ (next ++ rest) ≡ drop (l .used) (handOf a rows) ++ ((x .piece ++ next) ++ rest) =
-    ap (λ (z : List ℕ). z ++ (next ++ rest)) (window a rows l x) ∙ simp append-assoc in
-    told g (look-waits (a .check) (handOf a rows) h e ((x .piece ++ next) ++ rest) hs d
-    (subst (λ (z : List ℕ). Tells (l .check) z (h ∷ hs) v) y t))
-looks-back {a} {rows} {h = h} g (more l {rows′} r x e d s) next rest hs v (fell o t q) =
-    let y : hand rows′ 0 (r .have) ++ next ≡ drop (l .used) (handOf a rows) ++ (x .piece ++ next) =
-    ap (λ (z : List ℕ). z ++ next) (window a rows l x) ∙ append-assoc (drop (l .used) (handOf a rows)) (x .piece) next in
-    fell g (look-short (a .check) (handOf a rows) h e (x .piece ++ next) (subst (Short (l .check)) y t)) q
-looks-back {a} {rows} {h = h} g (none l {rows′} r x e d z) next rest hs v (stands o f n q) =
-    let p : x .piece ≡ [] = empty (x .piece) (x .many ∙ none-came r z f) in
-    let y : handOf a rows ++ (x .piece ++ next) ≡ handOf a rows =
-    ap (λ (y : List ℕ). handOf a rows ++ (y ++ next)) p ∙ ap (λ (y : List ℕ). handOf a rows ++ y) n ∙ append-nil _ in
-    let wrong : ended (l .check) (hand rows′ 0 (r .have)) ≡ illFormed =
-    ap (ended (l .check)) (window a rows l x ∙ ap (λ (y : List ℕ). drop (l .used) (handOf a rows) ++ y) p ∙ append-nil _)
-    ∙ rows-end (a .check) (handOf a rows) h e d in
-    fell g (subst (Short (a .check)) (sym y) (rows-short (a .check) (handOf a rows) h e d)) (q ∙ wrong)
-looks-back g (none l r x e d z) next rest hs v (told o t) = absurd (true≢false o)
-looks-back g (none l r x e d z) next rest hs v (fell o t q) = absurd (true≢false o)
-
-stays-back : {a : Audit} {rows next rest : List ℕ} {hs : List Handed} {v : Verdict} (ps : List Handed) → a .over ≡ true → Comes a rows next rest hs v → Comes a rows next rest ps v
-stays-back ps o (stands p f n q) = stands p f n q
-stays-back ps o (told p t) = absurd (both o p)
-stays-back ps o (fell p s q) = absurd (both o p)
-
-pub going-back : {a b : Audit} {rows piece rows′ : List ℕ} {ps : List Handed} → Going a rows ps piece b rows′ → (next rest : List ℕ) (hs : List Handed) (v : Verdict)
-    → Comes b rows′ next rest hs v → Comes a rows (piece ++ next) rest (ps ++ hs) v
-going-back idle next rest hs v k = k
-going-back {ps = ps} (stays o) next rest hs v k = stays-back (ps ++ hs) o k
-going-back {a} {rows = rows} (looks {h = h} {ps} {t} {piece} {rows₁} {more = more₁} g x y) next rest hs v k =
-    subst (λ (m : List ℕ). Comes a rows m rest (h ∷ (ps ++ hs)) v) (sym (append-assoc piece more₁ next))
-    (looks-back g x (more₁ ++ next) rest (ps ++ hs) v
-    (subst (λ (z : List Handed). Comes (t .audit) rows₁ (more₁ ++ next) rest z v) (pick-then (t .done) h ps hs) (going-back y next rest hs v k)))
-
--- the octets at hand at the end
-record Whole (a : Audit) (rows piece : List ℕ) (b : Audit) (rows′ : List ℕ) : Type 0 where
-  check : b .check ≡ a .check
-  hands : handOf b rows′ ≡ handOf a rows ++ piece
-
-filling-whole : {a b : Audit} {rows piece rows′ : List ℕ} → Filling a rows piece b rows′ → Whole a rows piece b rows′
-filling-whole (full s) = record { check = refl; hands = sym (append-nil _) }
-filling-whole {a} {rows = rows} {rows′ = rows′} (fills {more = more₁} {b = b} r g s some k) =
-    let w = filling-whole k in
-    record {
-      check = w .check;
-      hands = w .hands ∙ ap (λ (x : List ℕ). x ++ more₁) (g .window) ∙ append-assoc (handOf a rows) (g .piece) more₁;
-    }
-filling-whole (dry r g s z) = record { check = refl; hands = g .window }
-
-module _ (a : Audit) (rows : List ℕ) (going : a .over ≡ false) (piece : List ℕ) where
-  -- with so much at hand
-  abbrev here : List ℕ
-  here = handOf a rows ++ piece
-
-  by-row : (rest : List ℕ) → 17 ≤ length here → Tells (a .check) (handOf a rows ++ (piece ++ rest)) [] (ended (a .check) here)
-  by-row rest l = ends (record { octets = here; behind = rest; cut = sym (append-assoc (handOf a rows) piece rest) }) (inl l) refl
-
-  by-end : (rest : List ℕ) → {v : Verdict} → v ≡ ended (a .check) (handOf a rows ++ (piece ++ rest)) → Tells (a .check) (handOf a rows ++ (piece ++ rest)) [] v
-  by-end rest e = ends (record { octets = handOf a rows ++ (piece ++ rest); behind = []; cut = sym (append-nil _) }) (inr refl) e
-
-  by-rows : not (a .check .formed) ≡ false → (rest : List ℕ) → Dec (a .check .row < a .check .rows) → length here < 17
-      → Comes a rows piece rest [] (ended (a .check) here)
-  by-rows m rest (yes l) s = fell going (omega (arith, l, s)) (sym (ends-short (a .check) here m l s))
-  by-rows m rest (no l) s =
-      let n : a .check .rows ≤ a .check .row = omega (arith, l) in
-      told going (by-end rest (sym (ends-all (a .check) here m n) ∙ ends-all (a .check) (handOf a rows ++ (piece ++ rest)) m n))
-
-  by-form : (rest : List ℕ) (g : Bool) → a .check .formed ≡ g → length here < 17 → Comes a rows piece rest [] (ended (a .check) here)
-  by-form rest true e s = by-rows (ap not e) rest (decLt _ _) s
-  by-form rest false e s =
-      told going (by-end rest (sym (ends-not (a .check) here (ap not e)) ∙ ends-not (a .check) (handOf a rows ++ (piece ++ rest)) (ap not e)))
-
-  by-length : (rest : List ℕ) → Dec (length here < 17) → Comes a rows piece rest [] (ended (a .check) here)
-  by-length rest (yes s) = by-form rest (a .check .formed) refl s
-  by-length rest (no s) = told going (by-row rest (omega (arith, s)))
-
-pub ending-back : {a b : Audit} {rows piece rows′ : List ℕ} → Ending a rows piece b rows′ → b .read .failed ≡ false → (rest : List ℕ) → Comes a rows piece rest [] (b .verdict)
-ending-back (stood o) f rest = stands o f refl refl
-ending-back {a} {rows = rows} {piece = piece} {rows′ = rows′} (tells {b = b} going k) f rest =
-    let w = filling-whole k in
-    let v : ended (b .check) (handOf b rows′) ≡ ended (a .check) (handOf a rows ++ piece) =
-    ap (ended (b .check)) (w .hands) ∙ ap (λ (c : Check). ended c (handOf a rows ++ piece)) (w .check) in
-    subst (Comes a rows piece rest []) (sym v) (by-length a rows going piece rest (decLt _ _))

@@ -1,9 +1,9 @@
 -- The verdict of a whole second reading.
-use Prim.Native.Nat.{ℕ, _*_, _<_}
+use Prim.Native.Nat.{ℕ, _<_}
 use native.Mathlib.Omega.{arith}
 use mathlib.Core.Path.{_≡_, refl, sym, ap, _∙_, subst}
 use mathlib.Core.Logic.{_⊎_, inl, inr}
-use mathlib.Core.Bool.{Bool, true, false, true≢false}
+use mathlib.Core.Bool.{true, false, true≢false}
 use mathlib.Core.List.{List, [], _∷_, _++_, append-nil}
 use lib.ListN.{length, drop}
 use Rattle.octets.specs.Numbers.{at}
@@ -15,19 +15,23 @@ use Rattle.table.specs.declared.Verdict.{Verdict}
 use Rattle.table.proofs.Keeping.{keeps-on}
 use Rattle.table.proofs.Verdicts.{tells-verdict}
 use Rattle.audit_form.proofs.Came.{whole}
-use Rattle.audit_rows.specs.Goes.{fresh, Looks, packet, says, more, none, Going, idle, stays, looks, Filling, full, fills, dry, stood, tells}
+use Rattle.audit_rows.specs.Goes.{fresh, Looks, packet, says, more, none, Going, idle, stays, looks, Filling, full, fills, dry, stood}
+use Rattle.audit_rows.specs.Goes.{tells}
 use Rattle.window.specs.Window.{Refills}
-use Rattle.audit_rows.specs.Right.{GoesThen, Same, RefusedLeaves, OverStays, LastRead, OnlyReadsFail, OnlyReadsFailAtTheEnd, RightOf, RightVerdict}
+use Rattle.audit_rows.specs.Right.{GoesThen, Same, RefusedLeaves, OverStays, LastRead, OnlyReadsFail, OnlyReadsFailAtTheEnd, RightOf}
+use Rattle.audit_rows.specs.Right.{RightVerdict}
 use Rattle.audit_rows.specs.declared.Audit.{Audit}
 use Rattle.audit_rows.specs.declared.Turned.{Turned}
-use Rattle.audit_rows.proofs.Reading.{going-then, Comes, stands, told, fell, going-back, ending-back}
+use Rattle.audit_rows.proofs.Reading.{going-then}
+use Rattle.audit_rows.proofs.Coming.{Comes, stands, told, fell, going-back, ending-back}
 
 pub goes-on-then : GoesThen
 goes-on-then a b c rows rows₁ rows₂ m m₁ ps qs x y = going-then qs x y
 
 -- ---- what stays, and what is said to have failed
 
-nothing-handed : {a b : Audit} {rows more₁ rows′ : List ℕ} {ps : List Handed} → ps ≡ [] → Going a rows ps more₁ b rows′ → Same a rows more₁ b rows′
+nothing-handed : {a b : Audit} {rows more₁ rows′ : List ℕ} {ps : List Handed} → ps ≡ [] → Going a rows ps more₁ b rows′
+    → Same a rows more₁ b rows′
 nothing-handed e idle = record { audit = refl; buffer = refl; none = refl }
 nothing-handed e (stays o) = record { audit = refl; buffer = refl; none = refl }
 nothing-handed e (looks {h = h} {ps} g x k) = let z : _≡_ {A = ℕ} (length (h ∷ ps)) 0 = ap length e in absurd (omega (arith, z))
@@ -35,7 +39,8 @@ nothing-handed e (looks {h = h} {ps} g x k) = let z : _≡_ {A = ℕ} (length (h
 pub refused-leaves : RefusedLeaves
 refused-leaves a b rows more₁ rows′ octets lengths r g = nothing-handed refl g
 
-stays-same : {a b : Audit} {rows more₁ rows′ : List ℕ} {ps : List Handed} → a .over ≡ true → Going a rows ps more₁ b rows′ → Same a rows more₁ b rows′
+stays-same : {a b : Audit} {rows more₁ rows′ : List ℕ} {ps : List Handed} → a .over ≡ true → Going a rows ps more₁ b rows′
+    → Same a rows more₁ b rows′
 stays-same o idle = record { audit = refl; buffer = refl; none = refl }
 stays-same o (stays p) = record { audit = refl; buffer = refl; none = refl }
 stays-same o (looks g x k) = absurd (true≢false (sym o ∙ g))
@@ -52,7 +57,15 @@ look-fails f (more l r g e d s) = inr (record { rows = _; at = _; end = _; rows�
 look-fails f (none l r g e d z) = inr (record { rows = _; at = _; end = _; rows′ = _; refills = g })
 
 same-read : {a b : Audit} → b .read ≡ a .read → LastRead a → LastRead b
-same-read e x = record { rows = x .rows; at = x .at; end = x .end; rows′ = x .rows′; refills = subst (Refills (x .rows) (x .at) (x .end) (x .rows′)) (sym e) (x .refills) }
+same-read e x =
+    record {
+      rows = x .rows;
+      at = x .at;
+      end = x .end;
+      rows′ = x .rows′;
+      refills = subst (Refills (x .rows) (x .at) (x .end) (x .rows′))
+          (sym e) (x .refills);
+    }
 
 -- the last read stays the last, or another is made
 reads-on : {a b : Audit} {rows more₁ rows′ : List ℕ} {ps : List Handed} → Going a rows ps more₁ b rows′ → LastRead a → LastRead b
@@ -63,7 +76,8 @@ reads-on (looks g (says l v e d) k) x = reads-on k (same-read refl x)
 reads-on (looks g (more l r y e d s) k) x = reads-on k (record { rows = _; at = _; end = _; rows′ = _; refills = y })
 reads-on (looks g (none l r y e d z) k) x = reads-on k (record { rows = _; at = _; end = _; rows′ = _; refills = y })
 
-fails : {a b : Audit} {rows more₁ rows′ : List ℕ} {ps : List Handed} → a .read .failed ≡ false → Going a rows ps more₁ b rows′ → b .read .failed ≡ true
+fails : {a b : Audit} {rows more₁ rows′ : List ℕ} {ps : List Handed} → a .read .failed ≡ false → Going a rows ps more₁ b rows′
+    → b .read .failed ≡ true
     → LastRead b
 fails f idle e = absurd (true≢false (sym e ∙ f))
 fails f (stays o) e = absurd (true≢false (sym e ∙ f))
@@ -76,7 +90,8 @@ fails {b = b} f (looks {t = t} g x k) e = by (look-fails f x) (λ q. fails q k e
 pub only-reads-fail : OnlyReadsFail
 only-reads-fail a b rows more₁ rows′ ps f g e = fails f g e
 
-filling-fails : {a b : Audit} {rows more₁ rows′ : List ℕ} → a .read .failed ≡ false → Filling a rows more₁ b rows′ → b .read .failed ≡ true → LastRead b
+filling-fails : {a b : Audit} {rows more₁ rows′ : List ℕ} → a .read .failed ≡ false → Filling a rows more₁ b rows′ → b .read .failed ≡ true
+    → LastRead b
 filling-fails f (full s) e = absurd (true≢false (sym e ∙ f))
 filling-fails f (fills r g s some k) e = filling-fails (whole r some) k e
 filling-fails f (dry r g s z) e = record { rows = _; at = _; end = _; rows′ = _; refills = g }

@@ -1,4 +1,4 @@
--- No second result satisfies the contract of `Audit::fresh`. What a read brings is the system's; all else is training's.
+-- No second result satisfies the contract of `Audit::fresh`. What a read brings is the system's; all else is crate table's.
 use Rattle.octets.specs.Unique.{Fixes}
 use Rattle.octets.proofs.Fixed.{fixed}
 use Rattle.audit_rows.proofs.Audit.fresh.Kinds as kfresh

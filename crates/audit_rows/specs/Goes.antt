@@ -88,7 +88,7 @@ pub data Filling : Audit → List ℕ → List ℕ → Audit → List ℕ → Ty
   dry : {a : Audit} {rows rows₁ : List ℕ} (r : Refilled) (g : Refills rows (a .at) (a .end) rows₁ r)
       → length (handOf a rows) < rowOctets → brought r ≡ false → Filling a rows (g .piece) (having a r) rows₁
 
--- A verdict that stands stays; else training's call tells it of the row at hand.
+-- A verdict that stands stays; otherwise crate table's call gives it for the row at hand.
 pub data Ending (a : Audit) (rows : List ℕ) : List ℕ → Audit → List ℕ → Type 0 where
   stood : a .over ≡ true → Ending a rows [] a rows
   tells : {b : Audit} {piece rows′ : List ℕ} → a .over ≡ false → Filling a rows piece b rows′

@@ -34,7 +34,8 @@ RefusedLeaves = (a b : Audit) (rows more rows′ octets lengths : List ℕ) (r :
     → Going a rows (handedBy (answer.Refused r) octets lengths) more b rows′ → Same a rows more b rows′
 
 abbrev pub OverStays : Type 0
-OverStays = (a b : Audit) (rows more rows′ : List ℕ) (ps : List Handed) → a .over ≡ true → Going a rows ps more b rows′ → Same a rows more b rows′
+OverStays =
+    (a b : Audit) (rows more rows′ : List ℕ) (ps : List Handed) → a .over ≡ true → Going a rows ps more b rows′ → Same a rows more b rows′
 
 -- 'A read failed' is said only where a read was made that answered so itself.
 pub record LastRead (b : Audit) : Type 0 where

@@ -1,10 +1,9 @@
 // The second reading of a training table: its rows, read by a descriptor in pieces, beside the packets that are handed out.
 //
-// What is told is training's. Here its calls are made one after another, each on what the one before left.
+// Crate table says what the verdict is. Here its calls are made one after another, each on what the one before left.
 ghost use mathlib.Core.Path.{_≡_};
 ghost use mathlib.Core.Bool.{false};
 ghost use mathlib.Core.List.{[], _∷_};
-ghost use lib.ListN.{length};
 ghost use Rattle.table.specs.Look.{handed};
 ghost use Rattle.audit_rows.specs.Goes.{fresh, stopped, Turns, Goes, Fills, Ends};
 ghost use Rattle.audit_rows.specs.Frame.{handedIn, handedBy};
@@ -111,7 +110,8 @@ impl Audit {
         octets: &[u8],
         lengths: &[u16],
     ) -> Audit
-        ensures { λ r. ⌜ Goes self (now (rows .entry)) (handedIn arrival packets (now (octets .entry)) (now (lengths .entry))) r (now (rows .exit)) ⌝ }
+        ensures { λ r. ⌜ Goes self (now (rows .entry)) (handedIn arrival packets (now (octets .entry)) (now (lengths .entry))) r
+            (now (rows .exit)) ⌝ }
     {
         let mut audit = self;
         let n = octets::wide(packets);

@@ -1,10 +1,10 @@
 -- What is told at the end of all turns.
-use Prim.Native.Nat.{ℕ, _+_, _≤_, _<_}
+use Prim.Native.Nat.{ℕ, _≤_}
 use native.Mathlib.Omega.{arith}
 use borrow.Author.Tests.{eqb-true}
 use mathlib.Core.Path.{_≡_, refl, sym, ap, subst, _∙_}
 use mathlib.Core.Bool.{Bool, true, false, not, _&&_, true≢false}
-use mathlib.Core.List.{List, [], _∷_, _++_, map, append-nil, append-assoc}
+use mathlib.Core.List.{List, [], _∷_, _++_, map, append-nil}
 use lib.ListN.{length, drop, length-append, length-drop}
 use lib.Dec.{eqb}
 use Rattle.octets.proofs.Choices.{picks}
@@ -13,20 +13,19 @@ use Rattle.rules.specs.Channel.{Handed}
 use Rattle.rules.specs.Packets.{joined, bare, firsts}
 use Rattle.session.specs.Lent.{Lent, Enough, laid}
 use Rattle.session.specs.declared.Session.{Session}
-use Rattle.source.specs.Found.{cutAt}
-use Rattle.source.specs.Scan.{Waits, Finds, Told, Stays, scanned, keptBy}
+use Rattle.source.specs.Scan.{Waits, Finds, Told, scanned, keptBy}
 use Rattle.source.proofs.Scanning.{scans-find}
 use Rattle.source.specs.declared.Source.{Source}
 use Rattle.source.specs.declared.Taken.{Taken}
 use Rattle.source.specs.declared.Taken.the-variants as taken
-use Rattle.receiver.specs.Receive.{Tells, missing, toldOf, heard, received, Receives}
+use Rattle.receiver.specs.Receive.{missing, toldOf, heard, received, Receives}
 use Rattle.receiver.specs.Run.{toCome, Run, starts, reads, takes}
 use Rattle.receiver.specs.declared.Receiver.{Receiver}
 use Rattle.receiver.specs.declared.Received.{Received}
 use Rattle.receiver.specs.declared.Event.{Event}
 use Rattle.receiver.specs.declared.Event.the-variants as event
 use Rattle.receiver.proofs.Run.{pieces-are-received}
-use Rattle.feed.specs.Pull.{handOf, atEnd, pulled, Pulls}
+use Rattle.feed.specs.Pull.{handOf, atEnd, pulled}
 use Rattle.feed.specs.declared.Feed.{Feed}
 use Rattle.feed.specs.declared.Pull.{Pull}
 use Rattle.feed.specs.declared.Pull.the-variants as pull
@@ -84,7 +83,8 @@ came-to {p} (more {r = r} t g x) b e =
       first = tableOf t;
       rest = x .turned .more;
       cut = refl;
-      going = subst (λ (ps : List Handed). Going (p .state .audit) (p .rows) ps (tableOf t) (r .state .audit) (r .rows)) (sym all) (so-far t g);
+      going = subst (λ (ps : List Handed). Going (p .state .audit) (p .rows) ps (tableOf t) (r .state .audit) (r .rows)) (sym all)
+          (so-far t g);
       ending = o .ends;
     }
 
@@ -105,7 +105,8 @@ end-none : (s : Source) (failed : Bool) (came : ℕ) → atEnd s failed came ≡
 unfolding atEnd
 end-none s failed came =
     picks (λ (p : Pull). p ≡ pull.End → came ≡ 0) failed _ _ (λ e d. let z : _≡_ {A = ℕ} 0 1 = cc in absurd (omega arith))
-    (λ e. picks (λ (p : Pull). p ≡ pull.End → came ≡ 0) (eqb came 0) _ _ (λ k d. eqb-true came 0 k) (λ k d. let z : _≡_ {A = ℕ} 0 1 = cc in absurd (omega arith)))
+    (λ e. picks (λ (p : Pull). p ≡ pull.End → came ≡ 0) (eqb came 0) _ _ (λ k d. eqb-true came 0 k)
+    (λ k d. let z : _≡_ {A = ℕ} 0 1 = cc in absurd (omega arith)))
 
 record Missed (e : Event) (came : ℕ) : Type 0 where
   number : ℕ
@@ -128,7 +129,8 @@ module _ (s : Source) (z : Session) (kept w : List ℕ) (l : Lent) (n : ℕ) whe
   finds : Finds s kept w (scanned s kept w) (keptBy s kept w)
   finds = scans-find .finds (record { answers = refl; keeps = refl })
 
-  by-taken : (t : Taken) → Told s kept w (scanned s kept w) (keptBy s kept w) t → missing n ≡ heard z (keptBy s kept w) w l t .tells → Waiting s kept w
+  by-taken : (t : Taken) → Told s kept w (scanned s kept w) (keptBy s kept w) t → missing n ≡ heard z (keptBy s kept w) w l t .tells
+      → Waiting s kept w
   by-taken (taken.Missing m) k e = record { number = m; waits = k .1 }
   by-taken taken.Bad k e = let z : _≡_ {A = ℕ} 0 1 = cc in absurd (omega arith)
   by-taken taken.Over k e = let z : _≡_ {A = ℕ} 0 1 = cc in absurd (omega arith)
@@ -138,18 +140,21 @@ module _ (s : Source) (z : Session) (kept w : List ℕ) (l : Lent) (n : ℕ) whe
   by-taken (taken.Kept m) k e = let z : _≡_ {A = ℕ} 0 1 = cc in absurd (omega arith)
   by-taken (taken.Refused m) k e = let z : _≡_ {A = ℕ} 0 1 = cc in absurd (omega arith)
 
-waiting : (a : Receiver) (kept w : List ℕ) (l : Lent) (n : ℕ) {r : Received} {kept′ : List ℕ} {l′ : Lent} → Receives a kept w l r kept′ l′ → r .event ≡ event.Missing n
+waiting : (a : Receiver) (kept w : List ℕ) (l : Lent) (n : ℕ) {r : Received} {kept′ : List ℕ} {l′ : Lent} → Receives a kept w l r kept′ l′
+    → r .event ≡ event.Missing n
     → Waiting (a .source) kept w
 unfolding received
 waiting a kept w l n g e =
-    by-taken (a .source) (a .session) kept w l n (scanned (a .source) kept w .taken) (finds (a .source) (a .session) kept w l n .told) (sym (ap toldOf e) ∙ g .tells)
+    by-taken (a .source) (a .session) kept w l n (scanned (a .source) kept w .taken) (finds (a .source) (a .session) kept w l n .told)
+    (sym (ap toldOf e) ∙ g .tells)
 
 nothing-came : (p : List ℕ) → length p ≡ 0 → p ≡ []
 nothing-came [] e = refl
 nothing-came (x ∷ p) e = absurd (omega arith)
 
 -- one turn is a call and a piece
-went : {a₀ : Receiver} {kept₀ o : List ℕ} {hs : List Handed} {s r : State} {input kept rows input′ kept′ rows′ : List ℕ} {l l′ : Lent} → Enough l
+went : {a₀ : Receiver} {kept₀ o : List ℕ} {hs : List Handed} {s r : State} {input kept rows input′ kept′ rows′ : List ℕ} {l l′ : Lent}
+    → Enough l
     → (t : Turned s input kept l rows r input′ kept′ l′ rows′) → Run a₀ kept₀ o hs (s .receiver) kept (handOf (s .feed) input)
     → Run a₀ kept₀ (o ++ t .pulls .piece) (hs ++ packetsOf s input kept l) (r .receiver) kept′ (handOf (r .feed) input′)
 went {a₀} {kept₀} {o} {hs} {s} {r} {input} {kept} {input′ = input′} {kept′} {l = l} {l′} enough t run =
@@ -172,12 +177,14 @@ enough-left (more {r = r} t g x) e =
 abbrev RunAt : Receiver → List ℕ → List ℕ → List Handed → Place → Type 0
 RunAt a kept octets hs p = Run a kept octets hs (p .state .receiver) (p .kept) (handOf (p .state .feed) (p .input))
 
-run-so-far : {a₀ : Receiver} {kept₀ : List ℕ} {p q : Place} {n : ℕ} {text : List ℕ} (t : Turns goingAt TurnedAt p n text q) → Enough (p .lent)
+run-so-far : {a₀ : Receiver} {kept₀ : List ℕ} {p q : Place} {n : ℕ} {text : List ℕ} (t : Turns goingAt TurnedAt p n text q) → Enough
+    (p .lent)
     → RunAt a₀ kept₀ [] [] p → RunAt a₀ kept₀ (inputOf t) (packetsIn t) q
 run-so-far none e run = run
 run-so-far (more t g x) e run = went (enough-left t e) (x .turned) (run-so-far t e run)
 
-all-handed : {a₀ : Receiver} {kept₀ : List ℕ} {p q : Place} {n : ℕ} {text : List ℕ} (t : Turns goingAt TurnedAt p n text q) → Enough (p .lent)
+all-handed : {a₀ : Receiver} {kept₀ : List ℕ} {p q : Place} {n : ℕ} {text : List ℕ} (t : Turns goingAt TurnedAt p n text q) → Enough
+    (p .lent)
     → RunAt a₀ kept₀ [] [] p → p .state .ended ≡ false → q .state .ended ≡ true → packetsIn t ≡ toCome a₀ kept₀ (inputOf t)
 all-handed none e run b d = absurd (both d b)
 all-handed {a₀} {kept₀} (more {r = r} t g x) e run b d =

@@ -1,4 +1,5 @@
--- From the first turn to the last: what is told is the verdict of Table, on the octets of the table and the packets of the input as they were
+-- From the first turn to the last: what is told is the verdict of Table, on the octets of the table and the packets of the input as they
+-- were
 -- read.
 use Prim.Native.Nat.{ℕ, _<_}
 use mathlib.Core.Path.{_≡_}
@@ -6,7 +7,6 @@ use mathlib.Core.Bool.{true, false}
 use mathlib.Core.List.{List, _++_}
 use lib.ListN.{take, drop}
 use Rattle.octets.specs.Numbers.{at}
-use Rattle.rules.specs.Channel.{Handed}
 use Rattle.session.specs.Lent.{Lent, Enough}
 use Rattle.receiver.specs.Run.{toCome}
 use Rattle.receiver.specs.declared.Receiver.{Receiver}

@@ -1,6 +1,6 @@
 // Checks a training table, a file, against a recording or a stream that comes by a descriptor, and writes the verdict as one line.
 //
-// What is told is training's. The file is opened once and read twice, first for its form, then its rows beside the packets.
+// Crate table says what the verdict is. The file is opened once and read twice: first for its form, then its rows beside the packets.
 ghost use Prim.Native.Nat.{_≤_};
 ghost use mathlib.Core.Path.{_≡_};
 ghost use lib.ListN.{length, take};
@@ -28,7 +28,8 @@ struct Stopped {
     made: u64,
 }
 
-// Checks the table in the file at path against what a fresh receiver hands out of the descriptor source, writes one line to standard output,
+// Checks the table in the file at path against what a fresh receiver hands out of the descriptor source, writes one line to standard
+// output,
 // and answers the program's exit status. What fails, and why a recording is bad, is told on standard error, behind the program's name.
 pub fn run(name: &[u8], path: &[u8], source: i32, receiver: Receiver) -> i32 {
     let table = os::open_read(path);
@@ -162,7 +163,8 @@ fn rows(
     receiver: Receiver,
 ) -> Stopped
     ensures { λ r. ⌜ Looped receiver check (now (input .entry)) (now (kept .entry))
-        (lent (now (octets .entry)) (now (lengths .entry)) (now (firsts .entry))) (now (buffer .entry)) r (now (input .exit)) (now (kept .exit))
+        (lent (now (octets .entry)) (now (lengths .entry)) (now (firsts .entry))) (now (buffer .entry)) r (now (input .exit))
+        (now (kept .exit))
         (lent (now (octets .exit)) (now (lengths .exit)) (now (firsts .exit))) (now (buffer .exit)) ⌝ }
 {
     let mut state = State::fresh(receiver, check);

@@ -1,5 +1,5 @@
 -- No second result satisfies the contract of `State::fresh`. What the reads of a turn bring is the system's; all else is the receiver's and
--- training's.
+-- crate table's.
 use Rattle.octets.specs.Unique.{Fixes}
 use Rattle.octets.proofs.Fixed.{fixed}
 use Rattle.audit_turns.proofs.State.fresh.Kinds as kfresh

@@ -61,7 +61,8 @@ impl State {
         firsts: &mut [u32],
     ) -> State
         ensures { λ r. ⌜ Turned self (now (input .entry)) (now (kept .entry))
-            (lent (now (octets .entry)) (now (lengths .entry)) (now (firsts .entry))) (now (rows .entry)) r (now (input .exit)) (now (kept .exit))
+            (lent (now (octets .entry)) (now (lengths .entry)) (now (firsts .entry))) (now (rows .entry)) r (now (input .exit))
+            (now (kept .exit))
             (lent (now (octets .exit)) (now (lengths .exit)) (now (firsts .exit))) (now (rows .exit)) ⌝ }
     {
         let before = self.feed;

@@ -62,7 +62,8 @@ number-append xs ys =
     small : highNumber xs * 2 ^ length ys + highNumber ys < 2 ^ (length ys + length xs)
     small =
         subst (λ (n : ℕ). highNumber xs * 2 ^ length ys + highNumber ys < n)
-        (sym (pow-add 2 (length xs) (length ys)) ∙ ap (λ (n : ℕ). 2 ^ n) (let e : length xs + length ys ≡ length ys + length xs = omega arith in e))
+        (sym (pow-add 2 (length xs) (length ys)) ∙ ap (λ (n : ℕ). 2 ^ n)
+        (let e : length xs + length ys ≡ length ys + length xs = omega arith in e))
         (digits-lt (number-lt xs) (number-lt ys))
 
 -- j bits, m behind them, and r behind those
@@ -71,7 +72,8 @@ module _ (j m r n : ℕ) where
   bits-three = bits-high r (m + j) n ∙ ap (λ (p : List Bool). p ++ highBits r n) (bits-high m j (n / 2 ^ r))
 
   head-long : length (highBits j (n / 2 ^ r / 2 ^ m) ++ highBits m (n / 2 ^ r)) ≡ j + m
-  head-long = length-append (highBits j (n / 2 ^ r / 2 ^ m)) (highBits m (n / 2 ^ r)) ∙ ap₂ (λ (p q : ℕ). p + q) (length-bits j _) (length-bits m _)
+  head-long =
+      length-append (highBits j (n / 2 ^ r / 2 ^ m)) (highBits m (n / 2 ^ r)) ∙ ap₂ (λ (p q : ℕ). p + q) (length-bits j _) (length-bits m _)
 
   pub first-bits : take j (highBits (r + (m + j)) n) ≡ highBits j (n / 2 ^ r / 2 ^ m)
   first-bits =

@@ -3,7 +3,8 @@ use mathlib.Core.Path.{_≡_, refl, sym, ap, ap₂, _∙_, subst}
 use mathlib.Core.Bool.{Bool, true, false}
 use mathlib.Core.List.{List, [], _∷_, _++_, reverse, reverse-append, reverse-reverse, reverse-cons}
 use Prim.Native.Nat.{ℕ, zero, suc, _+_, _*_, _/_, _%_, _^_, _<_}
-use native.Mathlib.Nat.{suc-inj, suc-ne-zero, le-of-suc-le-suc, not-suc-le-zero, mod-lt, zero-lt-suc, suc-add, zero-add, div-add-mod', div-one, le-refl, pow-suc, mul-mod-left, mul-div-cancel}
+use native.Mathlib.Nat.{suc-inj, suc-ne-zero, le-of-suc-le-suc, not-suc-le-zero, mod-lt, zero-lt-suc, suc-add, zero-add, div-add-mod'}
+use native.Mathlib.Nat.{div-one, le-refl, pow-suc, mul-mod-left, mul-div-cancel}
 use native.Mathlib.Numerals.{add-one}
 use lib.ListN.{length, length-reverse}
 use lib.Dec.{eqb}

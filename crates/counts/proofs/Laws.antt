@@ -1,6 +1,7 @@
 -- The laws of a gap, once over the modulus.
 use Prim.Native.Nat.{ℕ, _+_, _-_, _%_, _<_}
-use native.Mathlib.Nat.{mod-lt, mod-mod, mod-add-mod, add-mod-mod, mod-eq-of-lt, add-mod-right, mod-mod-of-dvd, add-assoc, dvd-of-mod-eq-zero, mod-self}
+use native.Mathlib.Nat.{mod-lt, mod-mod, mod-add-mod, add-mod-mod, mod-eq-of-lt, add-mod-right, mod-mod-of-dvd, add-assoc}
+use native.Mathlib.Nat.{dvd-of-mod-eq-zero, mod-self}
 use native.Mathlib.Omega.{arith}
 use mathlib.Core.Path.{_≡_, sym, ap, _∙_}
 use Rattle.counts.specs.Gap.{gap, GapLeads, GapAlone, GapOn}

@@ -66,5 +66,6 @@ pub same-test : SameTest
 unfolding checkWrong
 same-test o m w l p = (
   (λ e. ap (check o m) (sym (accepted o m l p e)) ∙ own o m w (before l)),
-  (λ e. simp (eq-eqb _ _ (word-octets o _ _ _ (only-own o m w (before l) _ _ (p .small _) (p .small _) (ap (check o m) (sym (apart l (p .two))) ∙ e))))),
+  (λ e. simp (eq-eqb _ _ (word-octets o _ _ _
+      (only-own o m w (before l) _ _ (p .small _) (p .small _) (ap (check o m) (sym (apart l (p .two))) ∙ e))))),
 )

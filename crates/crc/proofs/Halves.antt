@@ -28,7 +28,8 @@ enteredBy s x = bitXor s (x * 2 ^ 8 % 2 ^ 16)
 abbrev pub turnedBy : List ℕ → ℕ → ℕ
 turnedBy table s = bitXor (getD table (s / 2 ^ 12) 0) (s * 2 ^ 4 % 2 ^ 16)
 
-held-entered : (s x : ℕ) → s < 2 ^ 16 → x < 2 ^ 8 → Holds highFirst (enteredBy s x) (plus (bitsOf highFirst 16 s) (bitsOf highFirst 8 x ++ zeros 8))
+held-entered : (s x : ℕ) → s < 2 ^ 16 → x < 2 ^ 8 → Holds highFirst (enteredBy s x)
+    (plus (bitsOf highFirst 16 s) (bitsOf highFirst 8 x ++ zeros 8))
 held-entered s x h l =
     record {
       fits = xor-lt 16 s (x * 2 ^ 8 % 2 ^ 16) h (mod-lt (x * 2 ^ 8) (lit< tt));

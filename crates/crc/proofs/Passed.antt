@@ -24,7 +24,8 @@ module _ {o : Order} {octets : List ℕ} {i s : ℕ} (p : Passed o octets i s) w
         holds =
             record {
               fits = q .fits;
-              bits = q .bits ∙ ap (λ (r : List Bool). run r (bitsOf o 8 (getD octets i 0))) (p .holds .bits) ∙ sym (register-more o octets i h);
+              bits = q .bits ∙ ap (λ (r : List Bool). run r (bitsOf o 8 (getD octets i 0))) (p .holds .bits) ∙ sym
+                  (register-more o octets i h);
             };
       }
 

@@ -8,7 +8,8 @@ use lib.ListN.{length, length-append}
 use lib.Seq.{append-snoc}
 use Rattle.bits.specs.Rows.{_⊕_, plus, zeros}
 use Rattle.crc.specs.Check.{generator, feed, step, run}
-use Rattle.bits.proofs.Rows.{⊕-false, ⊕-swap, plus-comm, plus-assoc, plus-swap, plus-zeros, zeros-plus, length-plus, plus-append, length-zeros, length-snoc}
+use Rattle.bits.proofs.Rows.{⊕-false, ⊕-swap, plus-comm, plus-assoc, plus-swap, plus-zeros, zeros-plus, length-plus, plus-append}
+use Rattle.bits.proofs.Rows.{length-zeros, length-snoc}
 
 abbrev pub Z : List Bool
 Z = zeros 16
@@ -64,7 +65,8 @@ run-plus r s (a ∷ cs) (b ∷ bs) h k e =
     ∙ run-plus (step r a) (step s b) cs bs (length-step r a h) (length-step s b k) (suc-inj e)
 
 -- the part r of a register runs by itself, over zeros
-pub apart : (r s bs : List Bool) (n : ℕ) → length r ≡ 16 → length s ≡ 16 → length bs ≡ n → run (plus r s) bs ≡ plus (run r (zeros n)) (run s bs)
+pub apart : (r s bs : List Bool) (n : ℕ) → length r ≡ 16 → length s ≡ 16 → length bs ≡ n → run (plus r s) bs ≡ plus (run r (zeros n))
+    (run s bs)
 apart r s bs n h k e =
     ap (run (plus r s)) (sym (ap (λ (m : ℕ). plus (zeros m) bs) (sym e) ∙ zeros-plus bs))
     ∙ run-plus r s (zeros n) bs h k (length-zeros n ∙ sym e)

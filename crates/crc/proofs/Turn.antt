@@ -12,7 +12,8 @@ use Rattle.bits.specs.Rows.{plus, zeros, ones, Order, digitsOf, bitsOf, numberO
 use Rattle.crc.specs.Check.{run}
 use Rattle.bits.specs.Rows.Order.{highFirst, lowFirst}
 use Rattle.crc.proofs.Register.{split, length-run}
-use Rattle.bits.proofs.Numbers.{bits-number, number-lt, length-bits, bits-xor, bits-cut, bits-high, bits-low, digits-left, digits-zero, digits-small}
+use Rattle.bits.proofs.Numbers.{bits-number, number-lt, length-bits, bits-xor, bits-cut, bits-high, bits-low, digits-left, digits-zero}
+use Rattle.bits.proofs.Numbers.{digits-small}
 
 -- ---- the j bits of a number of k + j bits that travel first, the other k, and the number when the first have gone
 

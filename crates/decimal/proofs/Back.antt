@@ -2,7 +2,6 @@
 use Prim.Native.Nat.{ℕ, zero, suc, _+_, _-_, _*_, _/_, _%_, _^_, _≤_, _<_}
 use native.Mathlib.Omega.{arith}
 use native.Mathlib.Nat.{add-zero, pow-suc, pow-le-pow-right, mul-le-mul-right}
-use native.Mathlib.Numerals.{add-one}
 use mathlib.Core.Path.{_≡_, refl, sym, ap, _∙_}
 use mathlib.Core.List.{List, [], _∷_, _++_, append-assoc, append-nil}
 use mathlib.Core.Bool.{Bool, true, false, not, _||_, true≢false}
@@ -15,7 +14,8 @@ use Rattle.octets.specs.Pick.{pick}
 use Rattle.octets.proofs.Choices.{picks, picked, passed}
 use Rattle.octets.proofs.Tests.{or-left, or-right}
 use Rattle.decimal.specs.Text.{decimalBelow, decimal, valueAfter, each}
-use Rattle.decimal.specs.Read.{largest, noDigit, digitsOf, numberOf, illWritten, endsOtherwise, numberWrong, readAt, behind, numbersOf, numbersWrong, ReadsBack, WritesBack, NumbersReadBack, NumbersWriteBack}
+use Rattle.decimal.specs.Read.{largest, noDigit, digitsOf, numberOf, illWritten, endsOtherwise, numberWrong, readAt, behind}
+use Rattle.decimal.specs.Read.{numbersOf, numbersWrong, ReadsBack, WritesBack, NumbersReadBack, NumbersWriteBack}
 use Rattle.decimal.specs.declared.NumberRead.{NumberRead}
 use Rattle.decimal.specs.declared.NumberRead.the-variants.{Read, Wrong}
 use Rattle.decimal.proofs.Decimal.{decimal-shows}
@@ -62,7 +62,8 @@ below-led zero n p h = absurd (omega arith)
 below-led (suc k) n p h =
     let g : n < 10 ^ k * 10 = rw pow-suc at h in
     picks Led (ltb n 10) ((48 + n) ∷ []) (decimalBelow k (n / 10) ++ ((48 + n % 10) ∷ [])) (λ t e. omega arith)
-    (λ f. let b : 10 ≤ n = ltb-false n 10 f in led-append (decimalBelow k (n / 10)) ((48 + n % 10) ∷ []) (below-led k (n / 10) (omega arith) (omega arith)))
+    (λ f. let b : 10 ≤ n = ltb-false n 10 f in led-append (decimalBelow k (n / 10)) ((48 + n % 10) ∷ [])
+    (below-led k (n / 10) (omega arith) (omega arith)))
 
 decimal-digits : (n : ℕ) → Digits (decimal n)
 unfolding decimal
@@ -74,7 +75,8 @@ decimal-well n h =
     let front : List ℕ = decimalBelow 9 (n / 10) in
     let last : List ℕ = (48 + n % 10) ∷ [] in
     picks (λ (ds : List ℕ). illWritten ds ≡ false) (ltb n 10) ((48 + n) ∷ []) (front ++ last) (λ t. refl)
-    (λ f. let b : 10 ≤ n = ltb-false n 10 f in led-well (front ++ last) (led-append front last (below-led 9 (n / 10) (omega arith) (omega arith))))
+    (λ f. let b : 10 ≤ n = ltb-false n 10 f in led-well (front ++ last)
+    (led-append front last (below-led 9 (n / 10) (omega arith) (omega arith))))
 
 -- digits with another octet behind them
 digits-stop : (ds : List ℕ) (c : ℕ) (text : List ℕ) → Digits ds → noDigit c ≡ true → digitsOf (ds ++ (c ∷ text)) ≡ ds
@@ -206,7 +208,8 @@ ended after (c ∷ s) h = ap (λ (x : ℕ). x ∷ s) (eqb-true c after (not-fals
 module _ (after : ℕ) (s : List ℕ) (h : numberWrong after s ≡ false) where
   small : numberOf s ≤ largest
   unfolding numberWrong
-  small = ltb-false largest (numberOf s) (or-left (ltb largest (numberOf s)) (endsOtherwise after (drop (length (digitsOf s)) s)) (or-right (illWritten (digitsOf s)) _ h))
+  small = ltb-false largest (numberOf s) (or-left (ltb largest (numberOf s)) (endsOtherwise after (drop (length (digitsOf s)) s))
+      (or-right (illWritten (digitsOf s)) _ h))
 
   whole : s ≡ decimal (numberOf s) ++ (after ∷ behind s)
   unfolding numberWrong
@@ -214,7 +217,8 @@ module _ (after : ℕ) (s : List ℕ) (h : numberWrong after s ≡ false) where
       let d = digits-of s in
       let rest : List ℕ = drop (length (digitsOf s)) s in
       let well : illWritten (digitsOf s) ≡ false = or-left (illWritten (digitsOf s)) _ h in
-      let e : rest ≡ after ∷ drop 1 rest = ended after rest (or-right (ltb largest (numberOf s)) (endsOtherwise after rest) (or-right (illWritten (digitsOf s)) _ h)) in
+      let e : rest ≡ after ∷ drop 1 rest = ended after rest
+      (or-right (ltb largest (numberOf s)) (endsOtherwise after rest) (or-right (illWritten (digitsOf s)) _ h)) in
       sym (d .1) ∙ ap (λ (r : List ℕ). digitsOf s ++ r) (e ∙ ap (λ (r : List ℕ). after ∷ r) (drop-drop 1 (length (digitsOf s)) s))
       ∙ ap (λ (ds : List ℕ). ds ++ (after ∷ behind s)) (sym (spelt (digitsOf s) (d .0) well small))
 
@@ -223,7 +227,8 @@ writes-back text from after n next h =
     let r = read-at text from after n next h in
     let here : List ℕ = drop from text in (
       omega (arith, small after here (r .right), r .number),
-      whole after here (r .right) ∙ ap (λ (m : ℕ). decimal m ++ (after ∷ behind here)) (r .number) ∙ ap (λ (s : List ℕ). decimal n ++ (after ∷ s)) (r .rest),
+      whole after here (r .right) ∙ ap (λ (m : ℕ). decimal m ++ (after ∷ behind here)) (r .number) ∙ ap
+          (λ (s : List ℕ). decimal n ++ (after ∷ s)) (r .rest),
     )
 
 pub numbers-write-back : NumbersWriteBack

@@ -21,7 +21,8 @@ lastDigits (suc k) n = lastDigits k (n / 10) ++ ((48 + n % 10) ∷ [])
 
 pub length-last : (k n : ℕ) → length (lastDigits k n) ≡ k
 length-last zero n = refl
-length-last (suc k) n = length-append (lastDigits k (n / 10)) ((48 + n % 10) ∷ []) ∙ ap (λ (m : ℕ). m + 1) (length-last k (n / 10)) ∙ add-one k
+length-last (suc k) n =
+    length-append (lastDigits k (n / 10)) ((48 + n % 10) ∷ []) ∙ ap (λ (m : ℕ). m + 1) (length-last k (n / 10)) ∙ add-one k
 
 -- k is how many digits n has
 abbrev pub Fewest : ℕ → ℕ → Type 0
@@ -45,7 +46,8 @@ spelt (suc f) (suc (suc k)) n h w =
     let high : n < 10 ^ suc k * 10 = rw pow-suc at (w .1) in
     let big : 10 ≤ n = omega arith in
     let less : suc k - 1 ≡ k = omega arith in
-    let ih : lastDigits (suc k) (n / 10) ≡ decimalBelow f (n / 10) = spelt f (suc k) (n / 10) (omega arith) (omega arith, omega arith, λ _. rw less (omega arith)) in
+    let ih : lastDigits (suc k) (n / 10) ≡ decimalBelow f (n / 10) = spelt f (suc k) (n / 10) (omega arith)
+    (omega arith, omega arith, λ _. rw less (omega arith)) in
     simp (le-ltb n 10 big) (ap (λ (l : List ℕ). l ++ ((48 + n % 10) ∷ [])) ih)
 
 -- the fewest digits that hold n are its decimal digits
@@ -55,12 +57,14 @@ last-decimal k n h w = spelt 10 k n h w
 
 -- and as many of its last digits
 last-by : (k n : ℕ) → lastDigits (length (decimalBelow k (n / 10))) (n / 10) ≡ decimalBelow k (n / 10) → (b : Bool) → ltb n 10 ≡ b
-    → lastDigits (length (pick b ((48 + n) ∷ []) (decimalBelow k (n / 10) ++ ((48 + n % 10) ∷ [])))) n ≡ pick b ((48 + n) ∷ []) (decimalBelow k (n / 10) ++ ((48 + n % 10) ∷ []))
+    → lastDigits (length (pick b ((48 + n) ∷ []) (decimalBelow k (n / 10) ++ ((48 + n % 10) ∷ [])))) n ≡ pick b ((48 + n) ∷ [])
+    (decimalBelow k (n / 10) ++ ((48 + n % 10) ∷ []))
 unfolding pick
 last-by k n e true h = simp (mod-eq-of-lt (ltb-true n 10 h))
 last-by k n e false h =
     let r : List ℕ = decimalBelow k (n / 10) in
-    ap (λ (m : ℕ). lastDigits m n) (length-append r ((48 + n % 10) ∷ []) ∙ add-one (length r)) ∙ ap (λ (l : List ℕ). l ++ ((48 + n % 10) ∷ [])) e
+    ap (λ (m : ℕ). lastDigits m n) (length-append r ((48 + n % 10) ∷ []) ∙ add-one (length r)) ∙ ap
+    (λ (l : List ℕ). l ++ ((48 + n % 10) ∷ [])) e
 
 below-last : (k n : ℕ) → lastDigits (length (decimalBelow k n)) n ≡ decimalBelow k n
 unfolding pick
@@ -100,7 +104,8 @@ ten-places {n} {k} c h small =
     sym all ∙ how-many c (subst (λ (m : ℕ). n < m) (ap (λ (m : ℕ). 10 ^ m) (sym all) ∙ sym (c .power)) small)
 
 -- a text, and the octet before it
-before-laid : (out : List ℕ) (at : ℕ) (text : List ℕ) (g : ℕ) → at + 1 + length text ≤ length out → set (overlay out (at + 1) text) at g ≡ overlay out at (g ∷ text)
+before-laid : (out : List ℕ) (at : ℕ) (text : List ℕ) (g : ℕ) → at + 1 + length text ≤ length out → set
+    (overlay out (at + 1) text) at g ≡ overlay out at (g ∷ text)
 before-laid out at text g h =
     let r : List ℕ = drop (at + 1 + length text) out in
     let y : ℕ = getD out at 0 in
@@ -112,7 +117,8 @@ before-laid out at text g h =
     ∙ ap (λ (k : ℕ). p ++ (g ∷ text) ++ drop k out) (add-assoc at 1 (length text) ∙ ap (λ (k : ℕ). at + k) (one-add (length text)))
 
 -- a text, and the octet behind it
-pub behind-laid : (out : List ℕ) (at : ℕ) (text : List ℕ) (g : ℕ) → at + length text < length out → set (overlay out at text) (at + length text) g ≡ overlay out at (text ++ (g ∷ []))
+pub behind-laid : (out : List ℕ) (at : ℕ) (text : List ℕ) (g : ℕ) → at + length text < length out → set (overlay out at text)
+    (at + length text) g ≡ overlay out at (text ++ (g ∷ []))
 behind-laid out at text g h =
     let p : List ℕ = take at out ++ text in
     let k : ℕ = at + length text in
@@ -121,7 +127,8 @@ behind-laid out at text g h =
     ∙ set-at p (getD out k 0) (drop (suc k) out) g k l
     ∙ sym (append-assoc p (g ∷ []) (drop (suc k) out))
     ∙ ap (λ (x : List ℕ). x ++ drop (suc k) out) (append-assoc (take at out) text (g ∷ []))
-    ∙ ap (λ (m : ℕ). take at out ++ (text ++ (g ∷ [])) ++ drop m out) (sym (add-one k) ∙ add-assoc at (length text) 1 ∙ ap (λ (m : ℕ). at + m) (sym (length-append text (g ∷ []))))
+    ∙ ap (λ (m : ℕ). take at out ++ (text ++ (g ∷ [])) ++ drop m out)
+    (sym (add-one k) ∙ add-assoc at (length text) 1 ∙ ap (λ (m : ℕ). at + m) (sym (length-append text (g ∷ []))))
 
 -- once the digits d from the i-th on are put, those before them are the last i of rest
 pub record Putting (d out₀ : List ℕ) (at i rest : ℕ) (out : List ℕ) : Type 0 where
@@ -145,7 +152,8 @@ pub one-put : (d out₀ : List ℕ) (at i rest : ℕ) (out : List ℕ) → at + 
 one-put d out₀ at i rest out fits inside p =
     let g : ℕ = 48 + rest % 10 in
     let f : List ℕ = lastDigits i (rest / 10) in
-    let e : d ≡ f ++ (g ∷ drop (i + 1) d) = p .before ∙ ap (λ (k : ℕ). lastDigits k rest ++ drop (i + 1) d) (add-one i) ∙ append-assoc f (g ∷ []) (drop (i + 1) d) in
+    let e : d ≡ f ++ (g ∷ drop (i + 1) d) = p .before ∙ ap (λ (k : ℕ). lastDigits k rest ++ drop (i + 1) d) (add-one i) ∙ append-assoc f
+    (g ∷ []) (drop (i + 1) d) in
     let next : drop i d ≡ g ∷ drop (i + 1) d = ap (drop i) e ∙ drop-at f (g ∷ drop (i + 1) d) i (length-last i (rest / 10)) in
     let l = length-drop (i + 1) d in
     record {

@@ -16,7 +16,8 @@ use Rattle.decimal.specs.Laid.{Laid, Puts}
 use Rattle.decimal.proofs.Short.{decimal-short, each-short}
 
 -- the same text, said otherwise
-pub resaid : {most more : ℕ} {text text′ out out′ : List ℕ} {at r : ℕ} → text ≡ text′ → most ≤ more → Laid most text out at out′ r → Laid more text′ out at out′ r
+pub resaid : {most more : ℕ} {text text′ out out′ : List ℕ} {at r : ℕ} → text ≡ text′ → most ≤ more → Laid most text out at out′ r
+    → Laid more text′ out at out′ r
 resaid {out = out} {at = at} e m l = record {
   leaves = l .leaves ∙ ap (overlay out at) e;
   behind = l .behind ∙ ap (λ (t : List ℕ). at + length t) e;
@@ -33,7 +34,8 @@ overlay-behind out a b at h =
     ∙ simp (drop-append-add, drop-drop, length-append, append-assoc, add-assoc)
 
 -- a text laid behind another is one text with it
-pub joined : {m k : ℕ} {a b out out₁ out₂ : List ℕ} {at r₁ r₂ : ℕ} → at ≤ length out → Laid m a out at out₁ r₁ → Laid k b out₁ r₁ out₂ r₂ → Laid (m + k) (a ++ b) out at out₂ r₂
+pub joined : {m k : ℕ} {a b out out₁ out₂ : List ℕ} {at r₁ r₂ : ℕ} → at ≤ length out → Laid m a out at out₁ r₁ → Laid k b out₁ r₁ out₂ r₂
+    → Laid (m + k) (a ++ b) out at out₂ r₂
 joined {a = a} {b} {out} {at = at} {r₁} h x y = record {
   leaves = y .leaves
       ∙ ap (λ (o : List ℕ). overlay o r₁ b) (x .leaves)
@@ -46,9 +48,11 @@ joined {a = a} {b} {out} {at = at} {r₁} h x y = record {
 -- a text behind numbers
 each-then : (after : ℕ) (ns text : List ℕ) → each after ns [] ++ text ≡ each after ns text
 each-then after [] text = refl
-each-then after (n ∷ ns) text = append-assoc (decimal n) (after ∷ each after ns []) text ∙ ap (λ (t : List ℕ). decimal n ++ (after ∷ t)) (each-then after ns text)
+each-then after (n ∷ ns) text =
+    append-assoc (decimal n) (after ∷ each after ns []) text ∙ ap (λ (t : List ℕ). decimal n ++ (after ∷ t)) (each-then after ns text)
 
-pub behind-numbers : (after : ℕ) {m k : ℕ} {text out out₁ out₂ : List ℕ} {at r₁ r₂ : ℕ} (ns : List ℕ) → at ≤ length out → Laid m (each after ns []) out at out₁ r₁ → Laid k text out₁ r₁ out₂ r₂
+pub behind-numbers : (after : ℕ) {m k : ℕ} {text out out₁ out₂ : List ℕ} {at r₁ r₂ : ℕ} (ns : List ℕ) → at ≤ length out → Laid m
+    (each after ns []) out at out₁ r₁ → Laid k text out₁ r₁ out₂ r₂
     → Laid (m + k) (each after ns text) out at out₂ r₂
 behind-numbers after {text = text} ns h x y = resaid (each-then after ns text) (omega arith) (joined h x y)
 
@@ -60,14 +64,18 @@ each-last : (after : ℕ) (ns : List ℕ) (n : ℕ) → each after ns (decimal n
 each-last after [] n = refl
 each-last after (m ∷ ns) n = ap (λ (t : List ℕ). decimal m ++ (after ∷ t)) (each-last after ns n)
 
-pub one-number-more : (after : ℕ) {out out₁ out₂ : List ℕ} {at r₁ r₂ : ℕ} (list : List ℕ) (i : ℕ) → i < length list → at ≤ length out → Laid (longestNumber * i) (each after (take i list) []) out at out₁ r₁
-    → Laid longestNumber (decimal (getD list i 0) ++ (after ∷ [])) out₁ r₁ out₂ r₂ → Laid (longestNumber * (i + 1)) (each after (take (i + 1) list) []) out at out₂ r₂
+pub one-number-more : (after : ℕ) {out out₁ out₂ : List ℕ} {at r₁ r₂ : ℕ} (list : List ℕ) (i : ℕ) → i < length list → at ≤ length out → Laid
+    (longestNumber * i) (each after (take i list) []) out at out₁ r₁
+    → Laid longestNumber (decimal (getD list i 0) ++ (after ∷ [])) out₁ r₁ out₂ r₂ → Laid (longestNumber * (i + 1))
+    (each after (take (i + 1) list) []) out at out₂ r₂
 one-number-more after list i inside h x y =
     let e : take (i + 1) list ≡ take i list ++ (getD list i 0 ∷ []) = ap (λ (k : ℕ). take k list) (add-one i) ∙ take-suc list i 0 inside in
-    resaid (each-last after (take i list) (getD list i 0) ∙ ap (λ (l : List ℕ). each after l []) (sym e)) (omega arith) (behind-numbers after (take i list) h x y)
+    resaid (each-last after (take i list) (getD list i 0) ∙ ap (λ (l : List ℕ). each after l []) (sym e)) (omega arith)
+    (behind-numbers after (take i list) h x y)
 
 -- octets put where they have room
-pub put-laid : {text out out′ : List ℕ} {at : ℕ} → at + length text ≤ length out → out′ ≡ put out at text → Laid (length text) text out at out′ (at + length text)
+pub put-laid : {text out out′ : List ℕ} {at : ℕ} → at + length text ≤ length out → out′ ≡ put out at text → Laid
+    (length text) text out at out′ (at + length text)
 put-laid {text} {out} {at = at} h e = record { leaves = e ∙ sym (put-fits out at text h); behind = refl; near = omega arith }
 
 -- Puts, where there is no room and where there is.
@@ -92,7 +100,8 @@ module _ {out out′ : List ℕ} {at r : ℕ} where
       → Laid longestNumber (decimal n ++ (after ∷ [])) out at out′ r
   number-laid n after room p = laid-puts room (simp length-append (omega (arith, decimal-short n))) p
 
-  pub numbers-laid : (after : ℕ) (ns : List ℕ) → at + longestNumber * length ns ≤ length out → Puts (longestNumber * length ns) (each after ns []) out at out′ r
+  pub numbers-laid : (after : ℕ) (ns : List ℕ) → at + longestNumber * length ns ≤ length out → Puts (longestNumber * length ns)
+      (each after ns []) out at out′ r
       → Laid (longestNumber * length ns) (each after ns []) out at out′ r
   numbers-laid after ns room p = laid-puts room (omega (arith, each-short after ns [])) p
 

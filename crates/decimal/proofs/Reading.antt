@@ -126,18 +126,21 @@ module _ (text : List ℕ) (from n end : ℕ) (r : Reading text from n end) (ins
         let x : Bool = eqb (end - from) 0 || (eqb (at text from) 48 && ltb 1 (end - from)) in
         let first : at here 0 ≡ at text from = getD-drop from text 0 0 ∙ ap (at text) (add-zero from) in
         let bad : illWritten (digitsOf here) ≡ x =
-        ill here ∙ ap (λ (c : ℕ). eqb k 0 || (eqb c 48 && ltb 1 k)) first ∙ ap (λ (m : ℕ). eqb m 0 || (eqb (at text from) 48 && ltb 1 m)) many in
+        ill here ∙ ap (λ (c : ℕ). eqb k 0 || (eqb c 48 && ltb 1 k)) first ∙ ap
+        (λ (m : ℕ). eqb m 0 || (eqb (at text from) 48 && ltb 1 m)) many in
         let few : ltb largest (numberOf here) ≡ false = le-ltb largest (numberOf here) (omega (arith, shows, r .small)) in
         ap (λ (b : Bool). b || (ltb largest (numberOf here) || endsOtherwise after (drop k here))) bad
         ∙ ap (λ (b : Bool). x || (b || endsOtherwise after (drop k here))) few
         ∙ ap (λ (s : List ℕ). x || endsOtherwise after s) (behind-digits text from n end r ends-here ∙ drop-cons text end 0 inside)
 
-    pub number-wrong : (after : ℕ) → ((eqb (end - from) 0 || (eqb (at text from) 48 && ltb 1 (end - from))) || not (eqb (at text end) after)) ≡ true
+    pub number-wrong : (after : ℕ) → ((eqb (end - from) 0 || (eqb (at text from) 48 && ltb 1 (end - from))) || not
+        (eqb (at text end) after)) ≡ true
         → Wrong ≡ readAt text from after
     unfolding readAt
     number-wrong after h = picked _ _ _ (settled after ∙ h)
 
-    pub number-read : (after : ℕ) → ((eqb (end - from) 0 || (eqb (at text from) 48 && ltb 1 (end - from))) || not (eqb (at text end) after)) ≡ false
+    pub number-read : (after : ℕ) → ((eqb (end - from) 0 || (eqb (at text from) 48 && ltb 1 (end - from))) || not (eqb (at text end) after))
+        ≡ false
         → Read n (end + 1) ≡ readAt text from after
     unfolding readAt
     number-read after h =

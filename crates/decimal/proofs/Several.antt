@@ -1,5 +1,5 @@
 -- Laws by which numbers are read one behind another.
-use Prim.Native.Nat.{ℕ, zero, suc, _+_, _≤_, _<_}
+use Prim.Native.Nat.{ℕ, zero, suc, _+_}
 use native.Mathlib.Omega.{arith}
 use native.Mathlib.Nat.{add-assoc}
 use mathlib.Core.Path.{_≡_, refl, sym, ap, _∙_}
@@ -12,7 +12,6 @@ use borrow.Author.Tests.{ltb-true, ltb-false}
 use Rattle.octets.specs.Pick.{pick}
 use Rattle.octets.proofs.Choices.{not-picked}
 use Rattle.decimal.specs.Read.{digitsOf, numberOf, numberWrong, readAt, behind, numbersOf, numbersWrong}
-use Rattle.decimal.specs.declared.NumberRead.{NumberRead}
 use Rattle.decimal.specs.declared.NumberRead.the-variants.{Read, Wrong}
 
 -- a text starts with this number, and rest stands behind the octet that ends it
@@ -35,7 +34,8 @@ module _ (text : List ℕ) (from after : ℕ) where
       record {
         right = k .0;
         number = cc;
-        rest = drop-drop (length (digitsOf here) + 1) from text ∙ ap (λ (i : ℕ). drop i text) (sym (add-assoc from (length (digitsOf here)) 1) ∙ end);
+        rest = drop-drop (length (digitsOf here) + 1) from text ∙ ap (λ (i : ℕ). drop i text)
+            (sym (add-assoc from (length (digitsOf here)) 1) ∙ end);
       }
     where
       wrong-read : {m j : ℕ} → Wrong ≡ Read m j → ⊥
@@ -45,7 +45,8 @@ module _ (text : List ℕ) (from after : ℕ) where
   unfolding readAt pick
   wrong-at h = by (numberWrong after here) refl h
     where
-      by : (b : Bool) → numberWrong after here ≡ b → pick b Wrong (Read (numberOf here) (from + length (digitsOf here) + 1)) ≡ Wrong → numberWrong after here ≡ true
+      by : (b : Bool) → numberWrong after here ≡ b → pick b Wrong (Read (numberOf here) (from + length (digitsOf here) + 1)) ≡ Wrong
+          → numberWrong after here ≡ true
       by true e k = e
       by false e k = let z : _≡_ {A = ℕ} 0 1 = cc in absurd (omega arith)
 
@@ -54,11 +55,13 @@ pub wrong-here : (k after : ℕ) (text : List ℕ) → numberWrong after text �
 unfolding numbersWrong
 wrong-here k after text h = ap (λ (b : Bool). b || numbersWrong k after (behind text)) h
 
-pub wrong-on : (k after : ℕ) (text : List ℕ) {n : ℕ} {rest : List ℕ} → Starts after text n rest → numbersWrong (suc k) after text ≡ numbersWrong k after rest
+pub wrong-on : (k after : ℕ) (text : List ℕ) {n : ℕ} {rest : List ℕ} → Starts after text n rest → numbersWrong
+    (suc k) after text ≡ numbersWrong k after rest
 unfolding numbersWrong
 wrong-on k after text s = ap (λ (b : Bool). b || numbersWrong k after (behind text)) (s .right) ∙ ap (numbersWrong k after) (s .rest)
 
-pub numbers-on : (k after : ℕ) (text : List ℕ) {n : ℕ} {rest : List ℕ} → Starts after text n rest → numbersOf (suc k) text ≡ n ∷ numbersOf k rest
+pub numbers-on : (k after : ℕ) (text : List ℕ) {n : ℕ} {rest : List ℕ} → Starts after text n rest → numbersOf
+    (suc k) text ≡ n ∷ numbersOf k rest
 unfolding numbersOf
 numbers-on k after text {n} s = ap (λ (m : ℕ). m ∷ numbersOf k (behind text)) (s .number) ∙ ap (λ (r : List ℕ). n ∷ numbersOf k r) (s .rest)
 

@@ -37,7 +37,8 @@ pub fn number(out: &mut [u8], at: usize, n: u32, after: u8) -> usize
 // Puts each number of a list and the octet after behind it into out from index at on, and answers the index behind them.
 // With less than NUMBER octets for each out stays, and the answer is at.
 pub fn numbers(out: &mut [u8], at: usize, list: &[u32], after: u8) -> usize
-    ensures { λ r. ⌜ Puts (longestNumber * length (now (list .entry))) (each after (now (list .entry)) []) (now (out .entry)) at (now (out .exit)) r ⌝ }
+    ensures { λ r. ⌜ Puts (longestNumber * length (now (list .entry))) (each after (now (list .entry)) []) (now (out .entry)) at
+        (now (out .exit)) r ⌝ }
 {
     if out.len() < at {
         return at;

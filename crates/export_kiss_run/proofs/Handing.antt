@@ -1,5 +1,5 @@
 -- A frame handed on: what the export of one frame leaves, and that it has room.
-use Prim.Native.Nat.{ℕ, _+_, _-_, _*_, _≤_}
+use Prim.Native.Nat.{ℕ, _-_, _*_, _≤_}
 use mathlib.Core.Path.{_≡_, refl, sym, ap, _∙_}
 use mathlib.Core.List.{List, [], _∷_, _++_, append-nil}
 use mathlib.Core.Bool.{Bool, true, false, not, true≢false, false≢true}
@@ -47,7 +47,15 @@ stream f = streamOf (f ∷ [])
 stream-short : (t : ℕ) (f : List ℕ) → readFrame t f .accepted ≡ true → length (stream f) ≤ 600
 stream-short t f h =
     let p = frame-passed t f _ (read-tells t f .plain h) .0 in
-    omega (arith, p .greatest, length-take-le (length f - 2) f (omega arith), escaped-twice (dataFrame ∷ before f), length-append (escaped (dataFrame ∷ before f)) (mark ∷ []), length-append (blockOf f) [])
+    omega (
+      arith,
+      p .greatest,
+      length-take-le (length f - 2) f (omega arith),
+      escaped-twice (dataFrame ∷ before f),
+      length-append
+          (escaped (dataFrame ∷ before f)) (mark ∷ []),
+      length-append (blockOf f) [],
+    )
 
 -- ---- the answer
 
@@ -56,7 +64,8 @@ abbrev one : ℕ → List ℕ → Told ℕ
 one t f = pick (readFrame t f .accepted) (accept (length (stream f))) (refuseAt 0 (readFrame t f .refusal) (readFrame t f .octet))
 
 by-read : (b : Bool) (room : Told ℕ) (n refusal octet : ℕ) → (b ≡ true → room ≡ accept n)
-    → pick (pick b (accept {A = ℕ} 0) (refuseAt 0 refusal octet) .accepted) room (pick b (accept {A = ℕ} 0) (refuseAt 0 refusal octet)) ≡ pick b (accept n) (refuseAt 0 refusal octet)
+    → pick (pick b (accept {A = ℕ} 0) (refuseAt 0 refusal octet) .accepted) room
+    (pick b (accept {A = ℕ} 0) (refuseAt 0 refusal octet)) ≡ pick b (accept n) (refuseAt 0 refusal octet)
 unfolding pick
 by-read true room n refusal octet h = h refl
 by-read false room n refusal octet h = refl
@@ -100,12 +109,14 @@ module _ (t : ℕ) (f out : List ℕ) (fits : Fits f out) where
       (λ a. sym (passed _ _ _ _ (le-ltb (length out) (length (stream f)) (omega (arith, stream-short t f a, fits .room))) refl))))
 
   -- by which the answer is one of the two
-  accepted-is : (b : Bool) (m refusal octet : ℕ) {n : ℕ} → accept {A = ℕ} n ≡ pick b (accept m) (refuseAt 0 refusal octet) → (b ≡ true) × (n ≡ m)
+  accepted-is : (b : Bool) (m refusal octet : ℕ) {n : ℕ} → accept {A = ℕ} n ≡ pick b (accept m) (refuseAt 0 refusal octet) → (b ≡ true) ×
+      (n ≡ m)
   unfolding pick
   accepted-is true m refusal octet e = (refl, ap (λ (x : Told ℕ). x .fields) e)
   accepted-is false m refusal octet e = absurd (true≢false (ap (λ (x : Told ℕ). x .accepted) e))
 
-  refused-is : (b : Bool) (m refusal octet : ℕ) {n o : ℕ} → refuseAt {A = ℕ} 0 n o ≡ pick b (accept m) (refuseAt 0 refusal octet) → (b ≡ false) × (n ≡ refusal)
+  refused-is : (b : Bool) (m refusal octet : ℕ) {n o : ℕ} → refuseAt {A = ℕ} 0 n o ≡ pick b (accept m) (refuseAt 0 refusal octet) →
+      (b ≡ false) × (n ≡ refusal)
   unfolding pick
   refused-is true m refusal octet e = absurd (false≢true (ap (λ (x : Told ℕ). x .accepted) e))
   refused-is false m refusal octet e = (refl, ap (λ (x : Told ℕ). x .refusal) e)
@@ -117,7 +128,8 @@ module _ (t : ℕ) (f out : List ℕ) (fits : Fits f out) where
     pub handed : {n : ℕ} → r ≡ exported.Length n → HandsOn t f (record { to = n; refusal = 0 }) out′
     unfolding handedOn
     handed {n} e =
-        let a = accepted-is (readFrame t f .accepted) (length (stream f)) (readFrame t f .refusal) (readFrame t f .octet) (ap told (sym e) ∙ answers) in
+        let a = accepted-is (readFrame t f .accepted) (length (stream f)) (readFrame t f .refusal) (readFrame t f .octet)
+        (ap told (sym e) ∙ answers) in
         let left : out′ ≡ written (stream f) out =
         x .leaves
         ∙ ap (λ (y : Exported). pick (told y .accepted) (written (streamOf (cut f ns)) out) out) e
@@ -143,5 +155,6 @@ module _ (t : ℕ) (f out : List ℕ) (fits : Fits f out) where
     pub left-out : {q : Refusal} → r ≡ exported.Refused q → HandsOn t f (record { to = 0; refusal = q .number }) out′
     unfolding handedOn
     left-out {q} e =
-        let a = refused-is (readFrame t f .accepted) (length (stream f)) (readFrame t f .refusal) (readFrame t f .octet) (ap told (sym e) ∙ answers) in
+        let a = refused-is (readFrame t f .accepted) (length (stream f)) (readFrame t f .refusal) (readFrame t f .octet)
+        (ap told (sym e) ∙ answers) in
         record { says = λ both. none both out′ ∙ passed _ _ _ _ (a .0) refl; refuses = a .1 }

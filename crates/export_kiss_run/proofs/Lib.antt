@@ -2,3 +2,4 @@ pub mod Handing
 pub mod Turning
 pub mod Whole
 pub mod Same
+pub mod TurnLaws

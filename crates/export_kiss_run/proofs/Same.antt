@@ -1,10 +1,9 @@
 -- With a 0xC0 on both sides of each frame the same is found.
 use Prim.Native.Nat.{ℕ}
-use mathlib.Core.Path.{_≡_, refl, sym, ap, _∙_, subst}
+use mathlib.Core.Path.{_≡_, refl, sym, ap, _∙_}
 use mathlib.Core.List.{List, [], _∷_, _++_, map, append-assoc}
 use mathlib.Core.Bool.{Bool, true, false}
 use lib.Dec.{eqb}
-use Rattle.octets.specs.Pick.{pick}
 use Rattle.octets.proofs.Choices.{picks}
 use Rattle.crc.specs.Check.{before}
 use Rattle.rules.specs.Packets.{joined}

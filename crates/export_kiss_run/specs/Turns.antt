@@ -39,7 +39,8 @@ pub record HandsOn (t : ℕ) (f : List ℕ) (r : Handed) (out : List ℕ) : Type
   pub says : (both : Bool) → hand out (pick both 0 1) (r .to) ≡ handedOn both t f
   pub refuses : r .refusal ≡ readFrame t f .refusal
 
--- What a section leads to: t, how many frames have passed, the octets that are to be written, a frame's refusal, and whether the run goes on.
+-- What a section leads to: t, how many frames have passed, the octets that are to be written, a frame's refusal, and whether the run goes
+-- on.
 pub record Leads : Type 0 where
   pub t : ℕ
   pub frames : ℕ

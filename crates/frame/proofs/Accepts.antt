@@ -1,9 +1,9 @@
 -- What holds of a frame that was accepted.
-use Prim.Native.Nat.{ℕ, _+_, _-_, _/_, _%_, _≤_, _<_}
+use Prim.Native.Nat.{ℕ, _+_, _/_, _%_, _≤_, _<_}
 use native.Mathlib.Omega.{arith}
 use mathlib.Core.Path.{_≡_, subst}
 use mathlib.Core.List.{List}
-use mathlib.Core.Bool.{Bool, true, false, not, _&&_, _||_}
+use mathlib.Core.Bool.{true, false, not, _&&_, _||_}
 use mathlib.Core.Logic.{inl, inr, ⊎-elim}
 use borrow.Author.Tests.{ltb-true, ltb-false, eqb-true, eqb-false, not-false, not-true}
 use lib.ListN.{length, take, drop}
@@ -18,7 +18,8 @@ use Rattle.bits.specs.Rows.{ones}
 use Rattle.bits.specs.Rows.Order.{lowFirst}
 use Rattle.crc.specs.Check.{checkWrong}
 use Rattle.frame.specs.Address.{addressWrong}
-use Rattle.frame.specs.Frame.{lengthWrong, controlWrong, protocolWrong, versionWrong, flagOf, statusWrong, pointerWrong, dataLength, statusOf, frameOf, readInformation, readHeader, readFrame}
+use Rattle.frame.specs.Frame.{lengthWrong, controlWrong, protocolWrong, versionWrong, flagOf, statusWrong, pointerWrong, dataLength}
+use Rattle.frame.specs.Frame.{statusOf, frameOf, readInformation, readHeader, readFrame}
 use Rattle.frame.specs.Back.{PointerRight, Accepted, Accepts}
 use Rattle.frame.specs.declared.Frame.{Frame}
 

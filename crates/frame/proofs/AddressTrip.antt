@@ -13,7 +13,8 @@ use Rattle.octets.specs.Pick.{pick}
 use Rattle.octets.proofs.Choices.{passed}
 use Rattle.octets.proofs.Runs.{run, run-is}
 use Rattle.octets.proofs.Tests.{facts, or-left, or-right, and-false}
-use Rattle.frame.specs.Address.{sign, space, breaks, callsignWrong, unfit, shiftedSign, startWrong, nextWrong, ssidWrong, wrongBehind, firstWrong, addressWrong, callsignOf, addressOf, addressOctets}
+use Rattle.frame.specs.Address.{sign, space, breaks, callsignWrong, unfit, shiftedSign, startWrong, nextWrong, ssidWrong, wrongBehind}
+use Rattle.frame.specs.Address.{firstWrong, addressWrong, callsignOf, addressOf, addressOctets}
 use Rattle.frame.specs.Back.{RightIsWritten}
 use Rattle.frame.specs.declared.Address.{Address}
 
@@ -55,7 +56,8 @@ parts n zero h l = record { top = omega arith; low = omega arith; ssid = omega a
 parts n (suc zero) h l = record { top = omega arith; low = omega arith; ssid = omega arith }
 parts n (suc (suc m)) h l = absurd (omega arith)
 
-six : (a b c d e f : Bool) → (a || b || c || d || e || f) ≡ false → (a ≡ false) × (b ≡ false) × (c ≡ false) × (d ≡ false) × (e ≡ false) × (f ≡ false)
+six : (a b c d e f : Bool) → (a || b || c || d || e || f) ≡ false → (a ≡ false) × (b ≡ false) × (c ≡ false) × (d ≡ false) × (e ≡ false) ×
+    (f ≡ false)
 six a b c d e f h = search facts
 
 module _ (a : Address) (last : ℕ) (callsign : callsignWrong (a .callsign) ≡ false) (ssid : a .ssid ≤ 15) (low : last ≤ 1) where
@@ -64,7 +66,8 @@ module _ (a : Address) (last : ℕ) (callsign : callsignWrong (a .callsign) ≡ 
   octets-right =
       let k = parts (a .ssid) last ssid low in
       let c = a .callsign in
-      let r = six (not (sign (c .0))) (breaks (c .0) (c .1)) (breaks (c .1) (c .2)) (breaks (c .2) (c .3)) (breaks (c .3) (c .4)) (breaks (c .4) (c .5)) callsign in
+      let r = six (not (sign (c .0))) (breaks (c .0) (c .1)) (breaks (c .1) (c .2)) (breaks (c .2) (c .3)) (breaks (c .3) (c .4))
+      (breaks (c .4) (c .5)) callsign in
       let first : sign (c .0) ≡ true = not-false _ (r .0) in
       let filled = no-space (c .0) first in
       let start : startWrong (2 * c .0) ≡ false = simp (filled, half, even, first) in

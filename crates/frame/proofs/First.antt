@@ -2,10 +2,10 @@
 use Prim.Native.Nat.{ℕ, zero, suc, _+_, _*_, _/_, _%_, _≤_, _<_}
 use native.Mathlib.Omega.{arith}
 use mathlib.Core.Path.{_≡_, refl, sym, ap, subst, _∙_}
-use mathlib.Core.List.{List, _++_}
+use mathlib.Core.List.{List}
 use mathlib.Core.Bool.{Bool, true, false, not, true≢false}
 use mathlib.Core.Logic.{_⊎_, inl, inr, ⊎-elim}
-use borrow.Author.Tests.{eq-eqb, lt-ltb, le-ltb, eqb-true, ltb-true, ltb-false, not-false}
+use borrow.Author.Tests.{eq-eqb, lt-ltb, eqb-true, ltb-true, ltb-false, not-false}
 use lib.ListN.{length, take, drop, replicate}
 use lib.Seq.{length-take-le, getD-take, ext-getD, take-at}
 use lib.Dec.{eqb, ltb}
@@ -13,9 +13,9 @@ use Rattle.octets.specs.Numbers.{at}
 use Rattle.octets.specs.Pick.{pick}
 use Rattle.octets.proofs.Choices.{picks}
 use Rattle.octets.proofs.Runs.{run, run-is}
-use Rattle.octets.proofs.Tests.{or-left, or-right, and-false}
+use Rattle.octets.proofs.Tests.{or-left, and-false}
 use Rattle.frame.specs.Address.{sign, space, breaks, unfit, startWrong, nextWrong, ssidWrong, wrongBehind, firstWrong, addressOctets}
-use Rattle.frame.specs.Octet.{AllBlank, blankCallsign, StandsIn, First, TellsFirst}
+use Rattle.frame.specs.Octet.{AllBlank, blankCallsign, StandsIn, TellsFirst}
 use Rattle.frame.specs.declared.Callsign.{Callsign}
 use Rattle.frame.specs.declared.Address.{Address}
 use Rattle.frame.proofs.AddressTrip.{blank-of, later, twice, Until, until, octets-right, fit, right-is-written}
@@ -129,12 +129,14 @@ module _ (s : List ℕ) (last k : ℕ) (l : k ≤ 6) (u : Until s last k) where
   same (suc (suc (suc (suc (suc (suc i)))))) h = absurd (omega arith)
 
   pub stands : length s ≡ 7 → StandsIn k s last
-  stands n = record { address = with-spaces; fit = fits; octets = agreed k (addressOctets with-spaces last) s (omega arith) (omega arith) same }
+  stands n =
+      record { address = with-spaces; fit = fits; octets = agreed k (addressOctets with-spaces last) s (omega arith) (omega arith) same }
 
 -- ---- the octet itself: no address has it behind them
 
 -- a right address does not agree up to it
-clashes : (s z : List ℕ) (last k i n : ℕ) → i + n ≤ 5 → k < 7 → Agree (k + 1) s z → 7 ≤ wrongBehind z last i n → wrongBehind s last i n ≡ k → ⊥
+clashes : (s z : List ℕ) (last k i n : ℕ) → i + n ≤ 5 → k < 7 → Agree (k + 1) s z → 7 ≤ wrongBehind z last i n → wrongBehind s last i n ≡ k
+    → ⊥
 unfolding wrongBehind
 clashes s z last k i zero l m g h =
     let p = later (eqb (at z 0) 64) 0 _ (omega arith) h in
@@ -171,7 +173,8 @@ next-blank x y e h =
     ⊎-elim (λ p. eqb-true _ _ (not-false _ p)) (λ p. absurd (true≢false (sym (eq-eqb x 64 e) ∙ or-left (eqb x 64) _ p)))
     (and-false (not (eqb y 64)) _ h)
 
-blanks : (s : List ℕ) (last k i n : ℕ) → i + n ≤ 5 → at s i ≡ 64 → ((j : ℕ) → j ≤ k → j < 6 → at s j ≡ 64) → wrongBehind s last i n ≡ k → Blanks s i n
+blanks : (s : List ℕ) (last k i n : ℕ) → i + n ≤ 5 → at s i ≡ 64 → ((j : ℕ) → j ≤ k → j < 6 → at s j ≡ 64) → wrongBehind s last i n ≡ k
+    → Blanks s i n
 unfolding wrongBehind
 blanks s last k i zero l e g = λ w. tt
 blanks s last k i (suc n) l e g =
@@ -223,12 +226,15 @@ before : (s : List ℕ) (last : ℕ) → length s ≡ 7 → last ≤ 1 → Stand
 before s last n low = go (ltb (firstWrong s last) 7) refl
   where
     go : (b : Bool) → ltb (firstWrong s last) 7 ≡ b → StandsIn (firstWrong s last) s last
-    go true e = let m : firstWrong s last < 7 = ltb-true _ _ e in stands s last (firstWrong s last) (omega arith) (until s last (firstWrong s last) (omega arith)) n
+    go true e =
+        let m : firstWrong s last < 7 = ltb-true _ _ e in stands s last (firstWrong s last) (omega arith)
+        (until s last (firstWrong s last) (omega arith)) n
     go false e =
         let w = right-is-written s last n low .0 e in
         record { address = w .address; fit = inl (w .fit); octets = ap (take (firstWrong s last)) (w .octets) }
 
-wrong : (s : List ℕ) (last : ℕ) → length s ≡ 7 → last ≤ 1 → (AllBlank s → ⊥) → firstWrong s last < 7 → StandsIn (firstWrong s last + 1) s last → ⊥
+wrong : (s : List ℕ) (last : ℕ) → length s ≡ 7 → last ≤ 1 → (AllBlank s → ⊥) → firstWrong s last < 7 → StandsIn
+    (firstWrong s last + 1) s last → ⊥
 wrong s last n low some m w =
     let z = addressOctets (w .address) last in
     let a = agree (firstWrong s last + 1) s z (sym (w .octets)) in

@@ -15,7 +15,8 @@ use Rattle.answer.specs.Refusals as no
 use Rattle.answer.specs.declared.Refusal.{Refusal}
 use Rattle.frame.specs.Asked.{Whole}
 use Rattle.frame.specs.Address.{firstWrong, addressWrong}
-use Rattle.frame.specs.Frame.{told, noFrame, lengthWrong, controlWrong, protocolWrong, versionWrong, flagOf, statusWrong, pointerWrong, dataLength, statusOf, fieldsOf, frameOf, readInformation, readHeader}
+use Rattle.frame.specs.Frame.{told, noFrame, lengthWrong, controlWrong, protocolWrong, versionWrong, flagOf, statusWrong}
+use Rattle.frame.specs.Frame.{pointerWrong, dataLength, statusOf, fieldsOf, frameOf, readInformation, readHeader}
 use Rattle.frame.specs.declared.Address.{Address}
 use Rattle.frame.specs.declared.Frame.{Frame}
 use Rattle.frame.specs.declared.FrameRead.the-variants.{Refused}

@@ -16,7 +16,8 @@ use Rattle.crc.specs.Check.{frameCheck, octetsOf, withCheck, checkWrong}
 use Rattle.bits.specs.Rows.Order.{lowFirst}
 use Rattle.crc.proofs.Ends.{found}
 use Rattle.frame.specs.Address.{addressWrong, addressOf}
-use Rattle.frame.specs.Frame.{lengthWrong, controlWrong, protocolWrong, versionWrong, flagOf, statusWrong, pointerWrong, dataLength, statusOf, frameOf, dataOf, timeOf, readInformation, readHeader, readFrame}
+use Rattle.frame.specs.Frame.{lengthWrong, controlWrong, protocolWrong, versionWrong, flagOf, statusWrong, pointerWrong, dataLength}
+use Rattle.frame.specs.Frame.{statusOf, frameOf, dataOf, timeOf, readInformation, readHeader, readFrame}
 use Rattle.frame.specs.Back.{ReadsBack}
 use Rattle.frame.specs.Write.{fieldsWrong, front, statusOctet, body, frameOctets}
 use Rattle.frame.specs.declared.Frame.{Frame}
@@ -87,7 +88,8 @@ module _ (f : Frame) (t : ℕ) (d m : List ℕ) (right : fieldsWrong f t (length
   unfolding rest
   status-at =
       let n : length s - 3 - t ≡ length (front f ++ d) = simp front-length (omega (arith, l, r .lent)) in
-      ap (λ (i : ℕ). at s i) n ∙ ap (λ (x : List ℕ). at x (length (front f ++ d))) behind ∙ getD-append-seam (front f ++ d) (statusOctet f t) _ 0
+      ap (λ (i : ℕ). at s i) n ∙ ap (λ (x : List ℕ). at x (length (front f ++ d))) behind ∙ getD-append-seam (front f ++ d)
+      (statusOctet f t) _ 0
 
   status : statusWrong t (statusOf t s) ≡ false
   unfolding statusWrong

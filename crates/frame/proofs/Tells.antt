@@ -16,7 +16,8 @@ use Rattle.bits.specs.Rows.Order.{lowFirst}
 use Rattle.crc.specs.Check.{checkWrong}
 use Rattle.frame.specs.Address.{firstWrong, addressWrong}
 use Rattle.frame.specs.Octet.{OctetOf, TellsOctet}
-use Rattle.frame.specs.Frame.{noFrame, lengthWrong, controlWrong, protocolWrong, versionWrong, statusWrong, pointerWrong, statusOf, dataLength, readInformation, readHeader, readFrame}
+use Rattle.frame.specs.Frame.{noFrame, lengthWrong, controlWrong, protocolWrong, versionWrong, statusWrong, pointerWrong, statusOf}
+use Rattle.frame.specs.Frame.{dataLength, readInformation, readHeader, readFrame}
 use Rattle.frame.specs.declared.Frame.{Frame}
 
 -- it accepts and says nothing else, or gives a number that is no session's, with the octet that belongs to it
@@ -48,13 +49,23 @@ read-tells t s =
     (λ e. record {
       plain = λ h. absurd (false≢true h);
       other = λ h. omega arith;
-      octet = record { destination = λ h. omega (arith, below (take 7 s) 0 e); source = λ h. absurd (omega arith); other = λ a b. absurd (a refl) };
+      octet = record {
+        destination = λ h. omega (arith, below (take 7 s) 0 e);
+        source = λ h. absurd (omega arith);
+        other = λ a b. absurd
+            (a refl);
+      };
     })
     (λ e. picks Tells (addressWrong (take 7 (drop 7 s)) 1) _ _
     (λ e. record {
       plain = λ h. absurd (false≢true h);
       other = λ h. omega arith;
-      octet = record { destination = λ h. absurd (omega arith); source = λ h. (omega arith, omega (arith, below (take 7 (drop 7 s)) 1 e)); other = λ a b. absurd (b refl) };
+      octet = record {
+        destination = λ h. absurd (omega arith);
+        source = λ h.
+            (omega arith, omega (arith, below (take 7 (drop 7 s)) 1 e));
+        other = λ a b. absurd (b refl);
+      };
     })
     (λ e. picks Tells (controlWrong (at s 14)) _ _ (λ e. refuses no.frameControl (λ h. omega arith) (λ h. omega arith))
     (λ e. picks Tells (protocolWrong (at s 15)) _ _ (λ e. refuses no.frameProtocol (λ h. omega arith) (λ h. omega arith))

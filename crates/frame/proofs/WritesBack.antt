@@ -112,7 +112,8 @@ module _ (t : ℕ) (s : List ℕ) (k : Passed t s) where
   octets-back : ((i : ℕ) → at s i < 256) → frameOctets f t (dataOf f s) (timeOf f t s) ≡ s
   unfolding frameOctets
   octets-back octet =
-      ap (withCheck lowFirst (ones 16)) body-back ∙ accepted lowFirst (ones 16) s (record { small = octet; two = omega (arith, k .least) }) (k .check)
+      ap (withCheck lowFirst (ones 16)) body-back ∙ accepted lowFirst (ones 16) s (record { small = octet; two = omega (arith, k .least) })
+      (k .check)
 
   written-back : ((i : ℕ) → at s i < 256) → WrittenBack (frameOf t s) t s
   unfolding f

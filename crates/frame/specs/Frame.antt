@@ -13,6 +13,7 @@ use Rattle.bits.specs.Rows.{ones}
 use Rattle.bits.specs.Rows.Order.{lowFirst}
 use Rattle.crc.specs.Check.{checkWrong}
 use Rattle.frame.specs.Limits.{leastLength, greatestLength, longestTime, noneStarts, rawData}
+use Rattle.frame.specs.Places.{addressLength, controlAt, protocolAt, channelAt, masterAt, countAt, pointerAt, dataAt, aroundTime}
 use Rattle.frame.specs.Address.{firstWrong, addressWrong, addressOf}
 use Rattle.frame.specs.declared.Address.{Address}
 use Rattle.frame.specs.declared.Frame.{Frame}
@@ -91,18 +92,18 @@ dataLength t s = length s - leastLength - t
 
 -- The status octet: the one before the last t octets of the information, behind which the check's two stand.
 abbrev pub statusOf : ℕ → List ℕ → ℕ
-statusOf t s = at s (length s - 3 - t)
+statusOf t s = at s (length s - aroundTime - t)
 
 -- The fields of octets with n octets of data and this status octet.
 abbrev pub fieldsOf : List ℕ → ℕ → ℕ → Frame
 fieldsOf s n status =
     record {
-      destination = addressOf (take 7 s);
-      source = addressOf (take 7 (drop 7 s));
-      channel = at s 16 / 8;
-      master = record { 0 = at s 17 };
-      count = record { 0 = at s 18 };
-      pointer = at s 19;
+      destination = addressOf (take addressLength s);
+      source = addressOf (take addressLength (drop addressLength s));
+      channel = at s channelAt / 8;
+      master = record { 0 = at s masterAt };
+      count = record { 0 = at s countAt };
+      pointer = at s pointerAt;
       telecommands = status % 4;
       length = n;
     }
@@ -112,28 +113,28 @@ frameOf t s = fieldsOf s (dataLength t s) (statusOf t s)
 
 -- The data and the time of a frame's octets; none if the octets have not all of them.
 abbrev pub dataOf : Frame → List ℕ → List ℕ
-dataOf f s = part s 20 (f .length)
+dataOf f s = part s dataAt (f .length)
 
 abbrev pub timeOf : Frame → ℕ → List ℕ → List ℕ
-timeOf f t s = part s (21 + f .length) t
+timeOf f t s = part s (dataAt + 1 + f .length) t
 
 -- ---- the reader
 
 -- The information of a frame: 13 to 15, else the fields.
 unfoldable pub readInformation : ℕ → List ℕ → Told Frame
 readInformation t s =
-    pick (versionWrong (at s 16)) (refuse noFrame no.frameVersion)
+    pick (versionWrong (at s channelAt)) (refuse noFrame no.frameVersion)
     (pick (statusWrong t (statusOf t s)) (refuse noFrame no.frameStatus)
-    (pick (pointerWrong (at s 19) (dataLength t s)) (refuse noFrame no.framePointer)
+    (pick (pointerWrong (at s pointerAt) (dataLength t s)) (refuse noFrame no.framePointer)
     (accept (frameOf t s))))
 
 -- The octets before it, first: 120 to 123. An address tells its first wrong octet, counted in the frame.
 unfoldable pub readHeader : ℕ → List ℕ → Told Frame
 readHeader t s =
-    pick (addressWrong (take 7 s) 0) (refuseAt noFrame no.frameDestination (firstWrong (take 7 s) 0))
-    (pick (addressWrong (take 7 (drop 7 s)) 1) (refuseAt noFrame no.frameSource (7 + firstWrong (take 7 (drop 7 s)) 1))
-    (pick (controlWrong (at s 14)) (refuse noFrame no.frameControl)
-    (pick (protocolWrong (at s 15)) (refuse noFrame no.frameProtocol)
+    pick (addressWrong (take addressLength s) 0) (refuseAt noFrame no.frameDestination (firstWrong (take addressLength s) 0))
+    (pick (addressWrong (take addressLength (drop addressLength s)) 1) (refuseAt noFrame no.frameSource (addressLength + firstWrong (take addressLength (drop addressLength s)) 1))
+    (pick (controlWrong (at s controlAt)) (refuse noFrame no.frameControl)
+    (pick (protocolWrong (at s protocolAt)) (refuse noFrame no.frameProtocol)
     (readInformation t s))))
 
 -- A single frame outside a session: 2, then 10, 11 (the last two octets, low octet first, aren't the check of those before), 120 to 123,

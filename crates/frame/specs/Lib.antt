@@ -1,4 +1,5 @@
 pub mod Limits
+pub mod Places
 pub mod Address
 pub mod Frame
 pub mod Write

@@ -2,7 +2,8 @@
 ghost use mathlib.Core.Path.{_≡_};
 ghost use lib.ListN.{length};
 ghost use Prim.Native.Nat.{_≤_};
-ghost use Rattle.frame.specs.Address.{sign, breaks, unfit, shiftedSign, startWrong, nextWrong, ssidWrong, firstWrong, addressOf, addressOctets};
+ghost use Rattle.frame.specs.Address.{sign, breaks, unfit, shiftedSign, startWrong, nextWrong, ssidWrong, firstWrong, addressOf};
+ghost use Rattle.frame.specs.Address.{addressOctets};
 ghost use Rattle.frame.specs.Asked.{Fits};
 use super::Address;
 use super::Callsign;

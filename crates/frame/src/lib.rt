@@ -78,7 +78,16 @@ impl Frame {
         telecommands: u8,
         length: usize,
     ) -> Frame
-        ensures { λ r. ⌜ r ≡ record { destination = destination; source = source; channel = channel; master = master; count = count; pointer = pointer; telecommands = telecommands; length = length } ⌝ }
+        ensures { λ r. ⌜ r ≡ record {
+          destination = destination;
+          source = source;
+          channel = channel;
+          master = master;
+          count = count;
+          pointer = pointer;
+          telecommands = telecommands;
+          length = length;
+        } ⌝ }
     {
         Frame {
             destination,

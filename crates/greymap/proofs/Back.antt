@@ -1,5 +1,5 @@
 -- What is written reads back, and what is accepted is what the writer gives for it.
-use Prim.Native.Nat.{ℕ, zero, suc, _+_, _-_, _*_, _≤_, _<_}
+use Prim.Native.Nat.{ℕ, zero, suc, _+_, _*_, _≤_}
 use native.Mathlib.Omega.{arith}
 use mathlib.Core.Path.{_≡_, refl, sym, ap, subst, _∙_}
 use mathlib.Core.List.{List, [], _∷_, _++_}
@@ -7,12 +7,12 @@ use mathlib.Core.Bool.{Bool, true, false, not, _||_, _&&_}
 use lib.ListN.{length, take, drop, length-append, length-drop, take-append-drop}
 use lib.Seq.{length-take-le, take-all, take-at, take-append-seam, drop-append-seam, drop-append-le, take-append-le, drop-at}
 use lib.Dec.{eqb, ltb}
-use borrow.Author.Tests.{le-ltb, eq-eqb, eqb-true, not-false, ltb-false}
+use borrow.Author.Tests.{le-ltb, eq-eqb, not-false}
 use Rattle.octets.specs.Numbers.{at}
 use Rattle.octets.specs.Pick.{pick}
 use Rattle.octets.specs.Parts.{part, written}
 use Rattle.octets.specs.Same.{same}
-use Rattle.octets.proofs.Choices.{not-picked, passed, picks}
+use Rattle.octets.proofs.Choices.{not-picked, passed}
 use Rattle.octets.proofs.Comparing.{same-is-equal}
 use Rattle.octets.proofs.Placing.{part-some}
 use Rattle.octets.proofs.Runs.{length-part}
@@ -25,7 +25,8 @@ use Rattle.decimal.proofs.Back.{numbers-read-back, numbers-write-back}
 use Rattle.decimal.proofs.Several.{numbers-length}
 use Rattle.image.specs.Line.{linePixels, imageLines, imageOctets, Image, imageOf}
 use Rattle.greymap.specs.Outcome.{Outcome, accepted, refused}
-use Rattle.greymap.specs.Picture.{header, headerOctets, greymapOctets, newline, blank, lineShown, linesShown, numbersOf, shown, greymapOf, textOf, short}
+use Rattle.greymap.specs.Picture.{header, headerOctets, greymapOctets, newline, blank, lineShown, linesShown, numbersOf, shown}
+use Rattle.greymap.specs.Picture.{greymapOf, textOf, short}
 use Rattle.greymap.specs.Writing as writing
 use Rattle.greymap.specs.Reading as reading
 use Rattle.greymap.specs.Reading.{greymapWrong, pixelsIn, textWrong, numbersIn, unnumberedWrong}
@@ -54,7 +55,8 @@ shown-lines-right (n ∷ ns) pixels h =
     let rest : List ℕ = linesShown ns (drop linePixels pixels) in
     let k : length row ≡ linePixels = line-length n (take linePixels pixels) (length-take-le linePixels pixels (omega arith)) in
     let l : linePixels * length ns ≤ length (drop linePixels pixels) = rw length-drop (omega arith) in
-    ap (λ (r : List ℕ). (eqb n 0 && not (same r blank)) || unnumberedWrong ns (drop linePixels (row ++ rest))) (take-at row rest linePixels k)
+    ap (λ (r : List ℕ). (eqb n 0 && not (same r blank)) || unnumberedWrong ns (drop linePixels (row ++ rest)))
+    (take-at row rest linePixels k)
     ∙ ap (λ (r : List ℕ). (eqb n 0 && not (same row blank)) || unnumberedWrong ns r) (drop-at row rest linePixels k)
     ∙ ap (λ (b : Bool). b || unnumberedWrong ns rest) (shown-right n (take linePixels pixels))
     ∙ shown-lines-right ns (drop linePixels pixels) l
@@ -68,7 +70,8 @@ right-shown n row h = by (eqb n 0) h
     by true k = sym (same-is-equal row blank .0 (not-false (same row blank) k))
     by false k = refl
 
-right-lines-shown : (ns pixels behind : List ℕ) → length pixels ≡ linePixels * length ns → unnumberedWrong ns pixels ≡ false → linesShown ns (pixels ++ behind) ≡ pixels
+right-lines-shown : (ns pixels behind : List ℕ) → length pixels ≡ linePixels * length ns → unnumberedWrong ns pixels ≡ false → linesShown ns
+    (pixels ++ behind) ≡ pixels
 right-lines-shown [] [] behind l h = refl
 right-lines-shown [] (p ∷ ps) behind l h = absurd (omega arith)
 right-lines-shown (n ∷ ns) pixels behind l h =
@@ -114,7 +117,8 @@ module _ (image : Image) (whole : short image ≡ false) where
       let g : List ℕ = header ++ shown image in
       let l : length g ≡ greymapOctets = greymap-length image whole in
       let fits : length (shown image) ≤ imageOctets = omega (arith, shown-length) in
-      sym (part-some g headerOctets imageOctets (omega arith)) ∙ ap (take imageOctets) (drop-append-seam header (shown image)) ∙ take-all imageOctets (shown image) fits
+      sym (part-some g headerOctets imageOctets (omega arith)) ∙ ap (take imageOctets) (drop-append-seam header (shown image))
+      ∙ take-all imageOctets (shown image) fits
 
   right-pixels : unnumberedWrong (numbersOf (image .lines)) (shown image) ≡ false
   right-pixels =
@@ -144,7 +148,8 @@ module _ (image : Image) (whole : short image ≡ false) where
         passed _ _ _ _ room (passed _ _ _ _ right-grey (passed _ _ _ _ (t .0) (passed _ _ _ _ u (rw (its-pixels, t .1) refl))))
 
 -- a writer that answered lengths left both
-module _ (image : Image) (out : writing.Outputs) (l : Lengths) (out′ : writing.Outputs) (w : writing.Writes image out (wrote.Lengths l) out′) where
+module _ (image : Image) (out : writing.Outputs) (l : Lengths) (out′ : writing.Outputs)
+    (w : writing.Writes image out (wrote.Lengths l) out′) where
   record Left : Type 0 where
     whole : short image ≡ false
     grey : take (l .grey) (out′ .grey) ≡ greymapOf image
@@ -153,18 +158,23 @@ module _ (image : Image) (out : writing.Outputs) (l : Lengths) (out′ : writing
   left : Left
   unfolding writing.writing
   left =
-      let no : (n : ℕ) → refused (writing.lengths 0 0) n out ≡ writing.observed (wrote.Lengths l) out′ → ⊥ = λ n e. refuse-or-accept (ap (λ (o : Outcome Lengths writing.Outputs). o .answer) e) in
+      let no : (n : ℕ) → refused (writing.lengths 0 0) n out ≡ writing.observed (wrote.Lengths l) out′ → ⊥ = λ n e. refuse-or-accept
+      (ap (λ (o : Outcome Lengths writing.Outputs). o .answer) e) in
       let a = not-picked (short image) _ _ _ (sym w) (no _) in
       let b = not-picked _ _ _ _ (a .1) (no _) in
       let g : List ℕ = greymapOf image in
       let t : List ℕ = textOf (image .lines) in
-      let e : accepted (writing.lengths (length g) (length t)) (writing.outputs (written g (out .grey)) (written t (out .text))) ≡ writing.observed (wrote.Lengths l) out′ = b .1 in
+      let e : accepted (writing.lengths (length g) (length t)) (writing.outputs (written g (out .grey)) (written t (out .text))) ≡
+      writing.observed (wrote.Lengths l) out′ = b .1 in
       let one : writing.lengths (length g) (length t) ≡ l = ap (λ (o : Outcome Lengths writing.Outputs). o .answer .fields) e in
-      let both : writing.outputs (written g (out .grey)) (written t (out .text)) ≡ out′ = ap (λ (o : Outcome Lengths writing.Outputs). o .lent) e in
+      let both : writing.outputs (written g (out .grey)) (written t (out .text)) ≡ out′ = ap
+      (λ (o : Outcome Lengths writing.Outputs). o .lent) e in
       record {
         whole = a .0;
-        grey = ap (λ (k : Lengths). take (k .grey) (out′ .grey)) (sym one) ∙ ap (λ (o : writing.Outputs). take (length g) (o .grey)) (sym both) ∙ take-append-seam g _;
-        text = ap (λ (k : Lengths). take (k .text) (out′ .text)) (sym one) ∙ ap (λ (o : writing.Outputs). take (length t) (o .text)) (sym both) ∙ take-append-seam t _;
+        grey = ap (λ (k : Lengths). take (k .grey) (out′ .grey)) (sym one) ∙ ap (λ (o : writing.Outputs). take (length g) (o .grey))
+            (sym both) ∙ take-append-seam g _;
+        text = ap (λ (k : Lengths). take (k .text) (out′ .text)) (sym one) ∙ ap (λ (o : writing.Outputs). take (length t) (o .text))
+            (sym both) ∙ take-append-seam t _;
       }
 
 pub calls-read-back : CallsReadBack
@@ -187,7 +197,8 @@ module _ (grey text : List ℕ) (before after : Image) (r : reading.Reads grey t
   right : Right
   unfolding reading.reading
   right =
-      let no : (n : ℕ) → refused tt n before ≡ reading.observed read.Read after → ⊥ = λ n e. refuse-or-accept (ap (λ (o : Outcome (Unit {0}) Image). o .answer) e) in
+      let no : (n : ℕ) → refused tt n before ≡ reading.observed read.Read after → ⊥ = λ n e. refuse-or-accept
+      (ap (λ (o : Outcome (Unit {0}) Image). o .answer) e) in
       let a = not-picked _ _ _ _ (sym r) (no _) in
       let b = not-picked _ _ _ _ (a .1) (no _) in
       let c = not-picked _ _ _ _ (b .1) (no _) in
@@ -219,7 +230,8 @@ module _ (grey text : List ℕ) (before after : Image) (r : reading.Reads grey t
       ap (λ (i : Image). length (i .pixels)) (right .leaves) ∙ length-append (pixelsIn grey) _ in
       let n : length (after .lines) ≡ length (numbersIn text) + length (drop (length (numbersIn text)) (before .lines)) =
       ap (λ (i : Image). length (i .lines)) (right .leaves) ∙ length-append (numbersIn text) _ in
-      ap (λ (b : Bool). b || ltb (length (after .lines)) imageLines) (le-ltb (length (after .pixels)) imageOctets (omega (arith, pixels-long)))
+      ap (λ (b : Bool). b || ltb (length (after .lines)) imageLines)
+      (le-ltb (length (after .pixels)) imageOctets (omega (arith, pixels-long)))
       ∙ le-ltb (length (after .lines)) imageLines (omega (arith, numbers-long))
 
   its-grey : greymapOf after ≡ grey
@@ -227,26 +239,32 @@ module _ (grey text : List ℕ) (before after : Image) (r : reading.Reads grey t
   its-grey =
       let known : part grey 0 headerOctets ≡ header =
       same-is-equal (part grey 0 headerOctets) header .0
-      (not-false (same (part grey 0 headerOctets) header) (or-right (not (eqb (length grey) greymapOctets)) (not (same (part grey 0 headerOctets) header)) (right .greymap))) in
+      (not-false (same (part grey 0 headerOctets) header)
+      (or-right (not (eqb (length grey) greymapOctets)) (not (same (part grey 0 headerOctets) header)) (right .greymap))) in
       let first : header ≡ take headerOctets grey = sym known ∙ sym (part-some grey 0 headerOctets (omega (arith, long))) in
       let rest : pixelsIn grey ≡ drop headerOctets grey =
-      sym (part-some grey headerOctets imageOctets (omega (arith, long))) ∙ take-all imageOctets (drop headerOctets grey) (rw length-drop (omega (arith, long))) in
-      ap (λ (p : List ℕ). header ++ p) (its-shown ∙ rest) ∙ ap (λ (h : List ℕ). h ++ drop headerOctets grey) first ∙ take-append-drop headerOctets grey
+      sym (part-some grey headerOctets imageOctets (omega (arith, long))) ∙ take-all imageOctets (drop headerOctets grey)
+      (rw length-drop (omega (arith, long))) in
+      ap (λ (p : List ℕ). header ++ p) (its-shown ∙ rest) ∙ ap (λ (h : List ℕ). h ++ drop headerOctets grey) first
+      ∙ take-append-drop headerOctets grey
 
   its-text : textOf (after .lines) ≡ text
   unfolding textOf
   its-text = ap (λ (ns : List ℕ). each newline ns []) its-numbers ∙ numbers-write-back imageLines newline text (right .list)
 
 -- so the writer gives it
-given : (image : Image) (out : writing.Outputs) → short image ≡ false → length (greymapOf image) ≤ length (out .grey) → length (textOf (image .lines)) ≤ length (out .text)
-    → accepted (writing.lengths (length (greymapOf image)) (length (textOf (image .lines)))) (writing.outputs (written (greymapOf image) (out .grey)) (written (textOf (image .lines)) (out .text)))
+given : (image : Image) (out : writing.Outputs) → short image ≡ false → length (greymapOf image) ≤ length (out .grey) → length
+    (textOf (image .lines)) ≤ length (out .text)
+    → accepted (writing.lengths (length (greymapOf image)) (length (textOf (image .lines))))
+    (writing.outputs (written (greymapOf image) (out .grey)) (written (textOf (image .lines)) (out .text)))
     ≡ writing.writing image out
 unfolding writing.writing writing.roomless
 given image out whole wide far =
     let g : List ℕ = greymapOf image in
     let t : List ℕ = textOf (image .lines) in
     passed _ _ _ _ whole
-    (passed _ _ _ _ (ap (λ (b : Bool). b || ltb (length (out .text)) (length t)) (le-ltb (length (out .grey)) (length g) wide) ∙ le-ltb (length (out .text)) (length t) far) refl)
+    (passed _ _ _ _ (ap (λ (b : Bool). b || ltb (length (out .text)) (length t)) (le-ltb (length (out .grey)) (length g) wide) ∙ le-ltb
+    (length (out .text)) (length t) far) refl)
 
 pub calls-write-back : CallsWriteBack
 calls-write-back grey text before after r out answer out′ wide far w =
@@ -254,7 +272,8 @@ calls-write-back grey text before after r out answer out′ wide far w =
     let t = its-text grey text before after r in
     let e = one-written {y = wrote.Lengths (writing.lengths (length (greymapOf after)) (length (textOf (after .lines))))}
     (w ∙ sym (given after out (not-short grey text before after r) (rw g wide) (rw t far))) in
-    let o : out′ ≡ writing.outputs (written (greymapOf after) (out .grey)) (written (textOf (after .lines)) (out .text)) = ap (λ x. x .1) e in
+    let o : out′ ≡ writing.outputs (written (greymapOf after) (out .grey)) (written (textOf (after .lines)) (out .text)) = ap
+    (λ x. x .1) e in
     record {
       answers = ap (λ x. x .0) e ∙ rw (g, t) refl;
       grey = ap (λ (x : writing.Outputs). take (length grey) (x .grey)) o ∙ rw g (take-append-seam grey _);

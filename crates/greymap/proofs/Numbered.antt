@@ -1,7 +1,6 @@
 -- Laws of reading the line numbers, and of lines numbered 0.
-use Prim.Native.Nat.{ℕ, suc, _+_, _-_, _*_, _≤_, _<_}
+use Prim.Native.Nat.{ℕ, suc, _+_, _-_, _≤_, _<_}
 use native.Mathlib.Omega.{arith}
-use native.Mathlib.Nat.{zero-add}
 use native.Mathlib.Numerals.{add-one}
 use mathlib.Core.Path.{_≡_, refl, sym, ap, _∙_}
 use mathlib.Core.List.{List, [], _∷_, _++_, append-assoc, append-nil}
@@ -16,9 +15,9 @@ use Rattle.octets.proofs.Placing.{part-some}
 use Rattle.decimal.specs.Read.{readAt, numbersOf, numbersWrong}
 use Rattle.decimal.specs.declared.NumberRead.{NumberRead}
 use Rattle.decimal.specs.declared.NumberRead.the-variants.{Read, Wrong}
-use Rattle.decimal.proofs.Several.{Starts, read-at, wrong-at, wrong-here, wrong-on, numbers-on, no-numbers, none-left}
+use Rattle.decimal.proofs.Several.{read-at, wrong-at, wrong-here, wrong-on, numbers-on, no-numbers, none-left}
 use Rattle.image.specs.Line.{linePixels, imageLines, imageOctets, start}
-use Rattle.greymap.specs.Picture.{headerOctets, greymapOctets, newline, blank}
+use Rattle.greymap.specs.Picture.{headerOctets, newline, blank}
 use Rattle.greymap.specs.Reading.{textWrong, numbersIn, pixelsIn, unnumberedWrong}
 use Rattle.greymap.specs.Asked.{Listed, Picture}
 
@@ -32,7 +31,8 @@ pub record Listing (text : List ℕ) (from i : ℕ) (list : List ℕ) : Type 0 w
 pub none-listed : (text list : List ℕ) → length list ≡ imageLines → Listing text 0 0 list
 none-listed text list l = record { wrong = refl; numbers = refl; long = l; most = omega arith }
 
-module _ (text list : List ℕ) (from i : ℕ) (g : Listing text from i list) (inside : i < imageLines) {r : NumberRead} (e : r ≡ readAt text from newline) where
+module _ (text list : List ℕ) (from i : ℕ) (g : Listing text from i list) (inside : i < imageLines) {r : NumberRead}
+    (e : r ≡ readAt text from newline) where
   left-over : imageLines - i ≡ suc (imageLines - (i + 1))
   left-over = omega arith
 
@@ -47,7 +47,8 @@ module _ (text list : List ℕ) (from i : ℕ) (g : Listing text from i list) (i
             ∙ ap (λ (j : ℕ). take i list ++ numbersOf j (drop from text)) left-over
             ∙ ap (λ (ns : List ℕ). take i list ++ ns) (numbers-on k newline (drop from text) s)
             ∙ sym (append-assoc (take i list) (n ∷ []) (numbersOf k (drop next text)))
-            ∙ ap (λ (ns : List ℕ). ns ++ numbersOf k (drop next text)) (sym (take-suc-set list i n (omega arith)) ∙ ap (λ (j : ℕ). take j (set list i n)) (sym (add-one i)));
+            ∙ ap (λ (ns : List ℕ). ns ++ numbersOf k (drop next text))
+            (sym (take-suc-set list i n (omega arith)) ∙ ap (λ (j : ℕ). take j (set list i n)) (sym (add-one i)));
         long = length-set list i n ∙ l;
         most = omega arith;
       }
@@ -79,12 +80,14 @@ pub record Looking (list grey : List ℕ) (n : ℕ) : Type 0 where
 pub none-looked : (list grey : List ℕ) → Looking list grey 0
 none-looked list grey = record { rest = refl; most = omega arith }
 
-module _ (list grey : List ℕ) (n : ℕ) (a : Picture list grey) (k : Looking list grey n) (inside : n < imageLines) {row : List ℕ} (e : row ≡ part grey (headerOctets + start n) linePixels) where
+module _ (list grey : List ℕ) (n : ℕ) (a : Picture list grey) (k : Looking list grey n) (inside : n < imageLines) {row : List ℕ}
+    (e : row ≡ part grey (headerOctets + start n) linePixels) where
   row-in : take linePixels (drop (start n) (pixelsIn grey)) ≡ row
   row-in =
       let long = a .octets in
       let all : pixelsIn grey ≡ drop headerOctets grey =
-      sym (part-some grey headerOctets imageOctets (omega arith)) ∙ take-all imageOctets (drop headerOctets grey) (rw length-drop (omega arith)) in
+      sym (part-some grey headerOctets imageOctets (omega arith)) ∙ take-all imageOctets (drop headerOctets grey)
+      (rw length-drop (omega arith)) in
       ap (λ (p : List ℕ). take linePixels (drop (start n) p)) all
       ∙ ap (take linePixels) (drop-drop (start n) headerOctets grey)
       ∙ part-some grey (headerOctets + start n) linePixels (omega arith) ∙ sym e
@@ -104,7 +107,8 @@ module _ (list grey : List ℕ) (n : ℕ) (a : Picture list grey) (k : Looking l
       ∙ ap (λ (j : ℕ). wrongRow || unnumberedWrong (drop (suc n) list) (drop j (pixelsIn grey))) next
       ∙ ap (λ (j : ℕ). wrongRow || unnumberedWrong (drop j list) (drop (start (n + 1)) (pixelsIn grey))) (sym (add-one n))
 
-  pub wrong-line : {said : Bool} → said ≡ same row blank → (eqb (at list n) 0 && not said) ≡ true → true ≡ unnumberedWrong list (pixelsIn grey)
+  pub wrong-line : {said : Bool} → said ≡ same row blank → (eqb (at list n) 0 && not said) ≡ true → true ≡ unnumberedWrong list
+      (pixelsIn grey)
   wrong-line {said} s h =
       let t : wrongRow ≡ true = ap (λ (b : Bool). eqb (at list n) 0 && not b) (sym s) ∙ h in
       sym (here ∙ ap (λ (b : Bool). b || unnumberedWrong (drop (n + 1) list) (drop (start (n + 1)) (pixelsIn grey))) t)
@@ -117,7 +121,8 @@ module _ (list grey : List ℕ) (n : ℕ) (a : Picture list grey) (k : Looking l
         most = omega arith;
       }
 
-pub all-looked : (list grey : List ℕ) (n : ℕ) → Picture list grey → Looking list grey n → imageLines ≤ n → false ≡ unnumberedWrong list (pixelsIn grey)
+pub all-looked : (list grey : List ℕ) (n : ℕ) → Picture list grey → Looking list grey n → imageLines ≤ n → false ≡ unnumberedWrong list
+    (pixelsIn grey)
 all-looked list grey n a k end =
     let l = a .lines in
     sym (k .rest ∙ ap (λ (ns : List ℕ). unnumberedWrong ns (drop (start n) (pixelsIn grey))) (drop-of-length-le list {i = n} (omega arith)))

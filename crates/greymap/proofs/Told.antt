@@ -25,11 +25,18 @@ read-apart (read.Refused n) (read.Refused m) h = ap read.Refused (same-refusal h
 read-apart read.Read (read.Refused m) h = accept-or-refuse h
 read-apart (read.Refused n) read.Read h = refuse-or-accept h
 
-pub one-written : {x y : PictureWritten} {i j : writing.Outputs} → writing.observed x i ≡ writing.observed y j → _≡_ {A = PictureWritten × writing.Outputs} (x, i) (y, j)
-one-written {x} {y} h = simp (written-apart x y (ap (λ (o : Outcome Lengths writing.Outputs). o .answer) h), ap (λ (o : Outcome Lengths writing.Outputs). o .lent) h)
+pub one-written : {x y : PictureWritten} {i j : writing.Outputs} → writing.observed x i ≡ writing.observed y j
+    → _≡_ {A = PictureWritten × writing.Outputs} (x, i) (y, j)
+one-written {x} {y} h =
+    simp (
+      written-apart x y (ap (λ (o : Outcome Lengths writing.Outputs). o .answer) h),
+      ap
+          (λ (o : Outcome Lengths writing.Outputs). o .lent) h,
+    )
 
 pub one-read : {x y : PictureRead} {i j : Image} → reading.observed x i ≡ reading.observed y j → _≡_ {A = PictureRead × Image} (x, i) (y, j)
-one-read {x} {y} h = simp (read-apart x y (ap (λ (o : Outcome (Unit {0}) Image). o .answer) h), ap (λ (o : Outcome (Unit {0}) Image). o .lent) h)
+one-read {x} {y} h =
+    simp (read-apart x y (ap (λ (o : Outcome (Unit {0}) Image). o .answer) h), ap (λ (o : Outcome (Unit {0}) Image). o .lent) h)
 
 -- a refusal leaves all that was lent
 pub write-refusal-leaves-all : writing.WriteRefusalLeavesAll
@@ -37,7 +44,8 @@ unfolding writing.writing
 write-refusal-leaves-all image out answer out′ e =
     let none : Lengths = writing.lengths 0 0 in
     subst (Leaves none out) (sym e)
-    (picks (Leaves none out) _ _ _ (λ t h. (refl, refl)) (λ f. picks (Leaves none out) _ _ _ (λ t h. (refl, refl)) (λ g h. absurd (true≢false h))))
+    (picks (Leaves none out) _ _ _ (λ t h. (refl, refl))
+    (λ f. picks (Leaves none out) _ _ _ (λ t h. (refl, refl)) (λ g h. absurd (true≢false h))))
 
 pub read-refusal-leaves-all : reading.ReadRefusalLeavesAll
 unfolding reading.reading

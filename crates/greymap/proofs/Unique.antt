@@ -12,8 +12,10 @@ use Rattle.greymap.proofs.write.Reads as rwrite
 use Rattle.greymap.proofs.read.Kinds as kread
 use Rattle.greymap.proofs.read.Reads as rread
 
-pub write-fixed : Fixes kwrite.ps kwrite.r {A = PictureWritten × Outputs} rwrite.Post (λ κs x s. (x, outputs (now (s .1 .1 .0)) (now (s .1 .1 .1 .0))))
+pub write-fixed : Fixes kwrite.ps kwrite.r {A = PictureWritten × Outputs} rwrite.Post
+    (λ κs x s. (x, outputs (now (s .1 .1 .0)) (now (s .1 .1 .1 .0))))
 write-fixed κs a x y s t p q = one-written (p ∙ sym q)
 
-pub read-fixed : Fixes kread.ps kread.r {A = PictureRead × Image} rread.Post (λ κs x s. (x, imageOf (now (s .1 .1 .0)) (now (s .1 .1 .1 .0))))
+pub read-fixed : Fixes kread.ps kread.r {A = PictureRead × Image} rread.Post
+    (λ κs x s. (x, imageOf (now (s .1 .1 .0)) (now (s .1 .1 .1 .0))))
 read-fixed κs a x y s t p q = one-read (p ∙ sym q)

@@ -3,13 +3,13 @@ use Prim.Native.Nat.{ℕ, _+_, _*_, _≤_, _<_}
 use native.Mathlib.Omega.{arith}
 use native.Mathlib.Nat.{zero-add}
 use mathlib.Core.Path.{_≡_, refl, sym, ap, _∙_}
-use mathlib.Core.List.{List, [], _∷_, _++_}
+use mathlib.Core.List.{List, []}
 use mathlib.Core.Bool.{Bool, true, false, _||_}
 use lib.ListN.{length, take, drop, length-append}
 use lib.Seq.{length-take-le, take-at}
 use lib.Dec.{ltb}
 use borrow.Author.Tests.{lt-ltb, le-ltb, ltb-false}
-use Rattle.octets.specs.Parts.{part, put, overlay, written}
+use Rattle.octets.specs.Parts.{part, put, written}
 use Rattle.octets.proofs.Choices.{picked, passed}
 use Rattle.octets.proofs.Placing.{part-some, put-none, put-first}
 use Rattle.octets.proofs.Tests.{or-left, or-right}
@@ -28,8 +28,10 @@ use Rattle.greymap.proofs.Shown.{lines-length}
 -- an image that is not too short
 pub room-of : (image : Image) → short image ≡ false → Room image
 room-of image h = record {
-  pixels = ltb-false (length (image .pixels)) imageOctets (or-left (ltb (length (image .pixels)) imageOctets) (ltb (length (image .lines)) imageLines) h);
-  lines = ltb-false (length (image .lines)) imageLines (or-right (ltb (length (image .pixels)) imageOctets) (ltb (length (image .lines)) imageLines) h);
+  pixels = ltb-false (length (image .pixels)) imageOctets
+      (or-left (ltb (length (image .pixels)) imageOctets) (ltb (length (image .lines)) imageLines) h);
+  lines = ltb-false (length (image .lines)) imageLines
+      (or-right (ltb (length (image .pixels)) imageOctets) (ltb (length (image .lines)) imageLines) h);
 }
 
 pub greymap-length : GreymapLength
@@ -39,10 +41,12 @@ greymap-length image h =
     let wide = r .pixels in
     let many = r .lines in
     let k : length (numbersOf (image .lines)) ≡ imageLines = length-take-le imageLines (image .lines) many in
-    length-append header (linesShown (numbersOf (image .lines)) (image .pixels)) ∙ omega (arith, k, lines-length (numbersOf (image .lines)) (image .pixels) (omega arith))
+    length-append header (linesShown (numbersOf (image .lines)) (image .pixels)) ∙ omega
+    (arith, k, lines-length (numbersOf (image .lines)) (image .pixels) (omega arith))
 
 -- the line numbers, laid into a list of their own and put from there
-pub text-put : (lines list list′ text text′ row : List ℕ) (n : ℕ) → imageLines ≤ length lines → length list ≡ longestNumber * imageLines → length list′ ≡ length list
+pub text-put : (lines list list′ text text′ row : List ℕ) (n : ℕ) → imageLines ≤ length lines → length list ≡ longestNumber * imageLines
+    → length list′ ≡ length list
     → Puts (longestNumber * length (numbersOf lines)) (each newline (numbersOf lines) []) list 0 list′ n
     → row ≡ part list′ 0 n → text′ ≡ put text 0 row → PutText lines text n text′
 unfolding textOf
@@ -69,9 +73,11 @@ module _ (image : Image) (out : Outputs) where
     pub grey-short : length (out .grey) < greymapOctets → observed (answers.Refused outputShort) out ≡ writing image out
     unfolding writing roomless
     grey-short s = passed _ _ _ _ (sym e ∙ h)
-        (picked _ _ _ (ap (λ (b : Bool). b || ltb (length (out .text)) (length (textOf (image .lines)))) (lt-ltb (length (out .grey)) (length (greymapOf image)) (omega (arith, long)))))
+        (picked _ _ _ (ap (λ (b : Bool). b || ltb (length (out .text)) (length (textOf (image .lines))))
+        (lt-ltb (length (out .grey)) (length (greymapOf image)) (omega (arith, long)))))
 
-    module _ {n : ℕ} {text′ : List ℕ} (p : PutText (image .lines) (out .text) n text′) (same : length text′ ≡ length (out .text)) (room : greymapOctets ≤ length (out .grey)) where
+    module _ {n : ℕ} {text′ : List ℕ} (p : PutText (image .lines) (out .text) n text′) (same : length text′ ≡ length (out .text))
+        (room : greymapOctets ≤ length (out .grey)) where
       grey-fits : {b : Bool} → (ltb (length (out .grey)) (length (greymapOf image)) || b) ≡ b
       grey-fits {b} = ap (λ (t : Bool). t || b) (le-ltb (length (out .grey)) (length (greymapOf image)) (omega (arith, long)))
 
@@ -81,12 +87,15 @@ module _ (image : Image) (out : Outputs) where
           let m = p .answers in
           let stays : text′ ≡ out .text = p .leaves ∙ sym (put-none (out .text) 0 (textOf (image .lines)) (omega arith)) in
           ap (λ (t : List ℕ). observed (answers.Refused outputShort) (outputs (out .grey) t)) stays
-          ∙ passed _ _ _ _ (sym e ∙ h) (picked _ _ _ (grey-fits ∙ lt-ltb (length (out .text)) (length (textOf (image .lines))) (omega arith)))
+          ∙ passed _ _ _ _ (sym e ∙ h) (picked _ _ _
+          (grey-fits ∙ lt-ltb (length (out .text)) (length (textOf (image .lines))) (omega arith)))
 
       pub both-written : {grey′ : List ℕ} → n ≤ length text′ → grey′ ≡ written (greymapOf image) (out .grey)
           → observed (answers.Lengths (lengths greymapOctets n)) (outputs grey′ text′) ≡ writing image out
       unfolding writing roomless
       both-written {grey′} s w =
           let m = p .answers in
-          let t : text′ ≡ written (textOf (image .lines)) (out .text) = p .leaves ∙ put-first (textOf (image .lines)) (out .text) (omega arith) in
-          passed _ _ _ _ (sym e ∙ h) (passed _ _ _ _ (grey-fits ∙ le-ltb (length (out .text)) (length (textOf (image .lines))) (omega arith)) (rw (sym long, m, w, t) refl))
+          let t : text′ ≡ written (textOf (image .lines)) (out .text) = p .leaves ∙ put-first (textOf (image .lines)) (out .text)
+          (omega arith) in
+          passed _ _ _ _ (sym e ∙ h) (passed _ _ _ _
+          (grey-fits ∙ le-ltb (length (out .text)) (length (textOf (image .lines))) (omega arith)) (rw (sym long, m, w, t) refl))

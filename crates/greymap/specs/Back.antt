@@ -21,7 +21,8 @@ use Rattle.greymap.specs.declared.PictureWritten.the-variants as written
 abbrev pub GreymapLength : Type 0
 GreymapLength = (image : Image) → short image ≡ false → length (greymapOf image) ≡ greymapOctets
 
--- What a call of `write` gave for an image, every call of `read` with room gives back: the pixels, those of a line numbered 0 as 0, and the numbers.
+-- What a call of `write` gave for an image, every call of `read` with room gives back: the pixels, those of a line numbered 0 as 0, and the
+-- numbers.
 abbrev pub CallsReadBack : Type 0
 CallsReadBack =
     (image : Image) (out : Outputs) (l : Lengths) (out′ : Outputs) → ((i : ℕ) → Of32Bits (at (image .lines) i))

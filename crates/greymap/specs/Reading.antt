@@ -62,4 +62,5 @@ Reads grey text before answer after = observed answer after ≡ reading grey tex
 -- On a refusal nothing lent changes.
 abbrev pub ReadRefusalLeavesAll : Type 0
 ReadRefusalLeavesAll =
-    (grey text : List ℕ) (before : Image) (answer : PictureRead) (after : Image) → Reads grey text before answer after → Leaves tt before (observed answer after)
+    (grey text : List ℕ) (before : Image) (answer : PictureRead) (after : Image) → Reads grey text before answer after → Leaves tt before
+    (observed answer after)

@@ -54,4 +54,5 @@ Writes image out answer out′ = observed answer out′ ≡ writing image out
 -- A refusal tells the lengths 0, and both outputs stay.
 abbrev pub WriteRefusalLeavesAll : Type 0
 WriteRefusalLeavesAll =
-    (image : Image) (out : Outputs) (answer : PictureWritten) (out′ : Outputs) → Writes image out answer out′ → Leaves (lengths 0 0) out (observed answer out′)
+    (image : Image) (out : Outputs) (answer : PictureWritten) (out′ : Outputs) → Writes image out answer out′ → Leaves (lengths 0 0) out
+    (observed answer out′)

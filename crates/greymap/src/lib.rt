@@ -43,7 +43,8 @@ pub enum PictureRead {
 // Writes an image as a greymap, lines numbered 0 as 0, and its line numbers as text, at the start of the lent outputs.
 // Refusals 40 and 50. Beyond the lengths answered, and on a refusal, the outputs stay.
 pub fn write(image: &[u8], lines: &[u32], grey: &mut [u8], text: &mut [u8]) -> PictureWritten
-    ensures { λ r. ⌜ Writes (imageOf (now (image .entry)) (now (lines .entry))) (outputs (now (grey .entry)) (now (text .entry))) r (outputs (now (grey .exit)) (now (text .exit))) ⌝ }
+    ensures { λ r. ⌜ Writes (imageOf (now (image .entry)) (now (lines .entry))) (outputs (now (grey .entry)) (now (text .entry))) r
+        (outputs (now (grey .exit)) (now (text .exit))) ⌝ }
 {
     if short(image, lines) {
         return PictureWritten::Refused(answer::IMAGE_SHORT);
@@ -65,7 +66,8 @@ pub fn write(image: &[u8], lines: &[u32], grey: &mut [u8], text: &mut [u8]) -> P
 // Reads a greymap and the text of its line numbers into the start of a lent image and list.
 // Refusals 40, 80, 81 and 82. Beyond the image, and on a refusal, nothing lent changes.
 pub fn read(grey: &[u8], text: &[u8], image: &mut [u8], lines: &mut [u32]) -> PictureRead
-    ensures { λ r. ⌜ Reads (now (grey .entry)) (now (text .entry)) (imageOf (now (image .entry)) (now (lines .entry))) r (imageOf (now (image .exit)) (now (lines .exit))) ⌝ }
+    ensures { λ r. ⌜ Reads (now (grey .entry)) (now (text .entry)) (imageOf (now (image .entry)) (now (lines .entry))) r
+        (imageOf (now (image .exit)) (now (lines .exit))) ⌝ }
 {
     if short(image, lines) {
         return PictureRead::Refused(answer::IMAGE_SHORT);

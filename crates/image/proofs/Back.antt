@@ -15,13 +15,13 @@ use Rattle.report.proofs.Back.{reads-back}
 use Rattle.report.proofs.Tells.{Whole, report-whole}
 use Rattle.report.specs.declared.Content.{Content}
 use Rattle.report.specs.declared.Content.the-variants as content
-use Rattle.report.specs.declared.Line.{Line as ReportLine}
 use Rattle.report.specs.declared.Report.{Report}
-use Rattle.image.specs.Line.{Image, lineOf, heldOtherwise, placed}
+use Rattle.image.specs.Line.{Image, lineOf, placed}
 use Rattle.image.specs.Placing.{Outcome, observed, refused, outcome, reported, brought, placing}
 use Rattle.image.specs.Back.{lineReport, PlacesOctets}
 use Rattle.image.specs.declared.Placed.the-variants as answers
 use Rattle.image.proofs.Told.{observed-apart}
+use Rattle.report.specs.declared.Line.{Line as ReportLine}
 
 pub head-of : (x y : List ℕ) → _≡_ {A = List (List ℕ)} (x ∷ []) (y ∷ []) → x ≡ y
 head-of x y e = cc
@@ -33,7 +33,13 @@ places-octets p l pixels arrival before answer after right ready free h =
     let back = reads-back (lineReport p l) (pixels ∷ []) right in
     let row : pixelsOf s ≡ pixels = head-of _ _ (back .parts) in
     let o : outcome s arrival (l .image) before ≡ observed (answers.Line (l .line)) (placed before (lineOf (l .line) pixels arrival)) =
-    simp (le-ltb _ _ (ready .room .pixels), le-ltb _ _ (ready .room .lines), ne-eqb arrival 0 (λ e. omega (arith, ready .numbered)), back .fields)
+    simp (
+      le-ltb _ _ (ready .room .pixels),
+      le-ltb _ _ (ready .room .lines),
+      ne-eqb arrival 0
+          (λ e. omega (arith, ready .numbered)),
+      back .fields,
+    )
     (simp (eq-eqb (l .image) (l .image) refl) (ap (λ (x : List ℕ). placing before (lineOf (l .line) x arrival)) row ∙ simp free)) in
     let e = observed-apart (h ∙ o) in
     record { answers = ap (λ x. x .0) e; leaves = ap (λ x. x .1) e }
@@ -70,7 +76,8 @@ module _ (packet : List ℕ) (arrival wanted n : ℕ) (before after : Image) whe
   lined (content.Housekeeping c) h = absurd (no-refusal _ h)
   lined (content.Available c) h = absurd (no-refusal _ h)
 
-  report-lined : (t : Told Report) → Whole t → reported packet arrival wanted before t ≡ lineLeft → (t ≡ accept (t .fields)) × Lined (t .fields .content)
+  report-lined : (t : Told Report) → Whole t → reported packet arrival wanted before t ≡ lineLeft → (t ≡ accept (t .fields)) × Lined
+      (t .fields .content)
   unfolding reported pick
   report-lined t w h = by (t .accepted) refl
     where

@@ -12,7 +12,6 @@ use Rattle.octets.proofs.Placing.{part-some}
 use Rattle.answer.specs.Told.{accept}
 use Rattle.packet.specs.Packet.{readPacket, fieldsOf}
 use Rattle.packet.specs.declared.Packet.{Packet}
-use Rattle.packet.proofs.Back.{accepted as packet-accepted}
 use Rattle.report.specs.Table.{success, failure, housekeeping, available, imageLine}
 use Rattle.report.specs.Report.{contentOf, lineAbove, readReport, pixelsOf}
 use Rattle.report.specs.declared.Content.{Content}
@@ -21,6 +20,7 @@ use Rattle.report.proofs.Accepted.{accepted}
 use Rattle.report.proofs.Known.{Kind, a-success, a-failure, a-housekeeping, an-available, a-line}
 use Rattle.image.specs.Line.{linePixels, imageLines}
 use Rattle.image.specs.Asked.{LineFits}
+use Rattle.packet.proofs.Back.{accepted as packet-accepted}
 
 either : (s : List ℕ) (b : Bool) (x y : Content) → LineFits x s → (b ≡ false → LineFits y s) → LineFits (pick b x y) s
 unfolding pick

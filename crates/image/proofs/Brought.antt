@@ -12,10 +12,8 @@ use Rattle.octets.proofs.Choices.{picked, passed}
 use Rattle.answer.specs.Told.{accept}
 use Rattle.answer.specs.Refusals.{notLine, imageOther, lineHeld}
 use Rattle.report.specs.Report.{readReport, pixelsOf}
-use Rattle.report.specs.Report.{told as report-told}
 use Rattle.report.specs.declared.Content.{Content}
 use Rattle.report.specs.declared.Content.the-variants as content
-use Rattle.report.specs.declared.Line.{Line as ReportLine}
 use Rattle.report.specs.declared.Report.{Report}
 use Rattle.report.specs.declared.ReportRead.{ReportRead}
 use Rattle.report.specs.declared.ReportRead.the-variants as read
@@ -23,6 +21,8 @@ use Rattle.report.proofs.Content.{the-type}
 use Rattle.image.specs.Line.{Image, Line, lineOf, heldOtherwise, placed, Fits}
 use Rattle.image.specs.Placing.{Outcome, refused, placing, brought, reported}
 use Rattle.image.specs.Asked.{LineFits, Brings}
+use Rattle.report.specs.Report.{told as report-told}
+use Rattle.report.specs.declared.Line.{Line as ReportLine}
 
 -- said is whether the line is held with other pixels
 module _ (image : Image) (l : Line) {said : Bool} (e : said ≡ heldOtherwise image (l .line) (l .pixels)) where
@@ -30,13 +30,15 @@ module _ (image : Image) (l : Line) {said : Bool} (e : said ≡ heldOtherwise im
   unfolding placing
   line-held h = picked _ _ _ (sym e ∙ h)
 
-  pub line-placed : {left : Image} → said ≡ false → left ≡ placed image l → record { answer = accept (l .line); image = left } ≡ placing image l
+  pub line-placed : {left : Image} → said ≡ false → left ≡ placed image l
+      → record { answer = accept (l .line); image = left } ≡ placing image l
   unfolding placing
   line-placed h p = passed _ _ _ _ (sym e ∙ h) (ap (λ (i : Image). record { answer = accept (l .line); image = i }) p)
 
 module _ (packet : List ℕ) (arrival wanted : ℕ) (image : Image) where
   -- a content whose variant is one of the first four
-  pub not-line : (c : Content) → OneOf (0 ∷ 1 ∷ 2 ∷ 3 ∷ []) (tagOf the-type c) → refused notLine image ≡ brought packet arrival wanted image c
+  pub not-line : (c : Content) → OneOf (0 ∷ 1 ∷ 2 ∷ 3 ∷ []) (tagOf the-type c)
+      → refused notLine image ≡ brought packet arrival wanted image c
   unfolding brought
   not-line (content.Success c) k = refl
   not-line (content.Failure c) k = refl

@@ -11,7 +11,6 @@ use Rattle.report.specs.Report.{readReport, pixelsOf}
 use Rattle.report.specs.declared.Content.{Content}
 use Rattle.report.specs.declared.Content.the-variants as content
 use Rattle.report.specs.declared.Report.{Report}
-use Rattle.report.specs.declared.ReportRead.{ReportRead}
 use Rattle.report.specs.declared.ReportRead.the-variants as read
 use Rattle.report.proofs.Told.{told-apart}
 use Rattle.report.proofs.Calls.{format, calls-back}

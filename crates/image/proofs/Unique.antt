@@ -8,5 +8,6 @@ use Rattle.image.proofs.Told.{observed-apart}
 use Rattle.image.proofs.place.Kinds as kplace
 use Rattle.image.proofs.place.Reads as rplace
 
-pub place-fixed : Fixes kplace.ps kplace.r {A = Placed × Image} rplace.Post (λ κs x s. (x, imageOf (now (s .1 .1 .1 .0)) (now (s .1 .1 .1 .1 .0))))
+pub place-fixed : Fixes kplace.ps kplace.r {A = Placed × Image} rplace.Post
+    (λ κs x s. (x, imageOf (now (s .1 .1 .1 .0)) (now (s .1 .1 .1 .1 .0))))
 place-fixed κs a x y s t p q = observed-apart (p ∙ sym q)

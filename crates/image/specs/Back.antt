@@ -12,7 +12,6 @@ use Rattle.answer.specs.declared.Written.{Written}
 use Rattle.answer.specs.declared.Written.the-variants.{Length}
 use Rattle.packet.specs.declared.Packet.{Packet}
 use Rattle.report.specs.Write.{reportWrong, reportOctets}
-use Rattle.report.specs.declared.Line.{Line as ReportLine}
 use Rattle.report.specs.declared.Report.{Report}
 use Rattle.report.specs.declared.ReportRead.{ReportRead}
 use Rattle.report.specs.declared.Content.the-variants as content
@@ -20,6 +19,7 @@ use Rattle.image.specs.Line.{Image, Room, lineOf, heldOtherwise, placed}
 use Rattle.image.specs.Placing.{Places}
 use Rattle.image.specs.declared.Placed.{Placed}
 use Rattle.image.specs.declared.Placed.the-variants as answers
+use Rattle.report.specs.declared.Line.{Line as ReportLine}
 
 abbrev pub lineReport : Packet → ReportLine → Report
 lineReport p l = record { packet = p; content = content.Line l }

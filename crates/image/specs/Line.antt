@@ -1,5 +1,5 @@
 -- Document 01, 'Image and sequence': what placing one line does to an image and its list of line numbers.
-use Prim.Native.Nat.{ℕ, min, _*_, _≤_, _<_}
+use Prim.Native.Nat.{ℕ, min, _+_, _*_, _≤_, _<_}
 use mathlib.Core.Path.{_≡_}
 use mathlib.Core.Bool.{Bool, not, _&&_}
 use mathlib.Core.List.{List}
@@ -9,16 +9,17 @@ use Rattle.octets.specs.Numbers.{at}
 use Rattle.octets.specs.Parts.{part, overlay}
 use Rattle.octets.specs.Pick.{pick}
 use Rattle.octets.specs.Same.{same}
+use Rattle.report.specs.Limits.{lastLine, pixelsLength}
 
--- Limits: 188 pixels a line, 120 lines, and so 22,560 octets.
+-- Limits: the pixels of a line are those of its report, 188; the last line is 119, so there are 120, and 22,560 octets.
 abbrev pub linePixels : ℕ
-linePixels = 188
+linePixels = pixelsLength
 
 abbrev pub imageLines : ℕ
-imageLines = 120
+imageLines = lastLine + 1
 
 abbrev pub imageOctets : ℕ
-imageOctets = 22560
+imageOctets = linePixels * imageLines
 
 -- The pixels of an image, and for each line its number: 0 for "not received", else an arrival number.
 pub record Image : Type 0 where

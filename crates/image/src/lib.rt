@@ -49,7 +49,8 @@ fn held_otherwise(n: usize, pixels: &[u8], image: &[u8], lines: &[u32]) -> bool
 // Puts the pixels of line n at their place, and gives the line its number.
 fn lay(n: usize, pixels: &[u8], arrival: u32, image: &mut [u8], lines: &mut [u32])
     requires { ⌜ Fits (imageOf (now image) (now lines)) (lineOf n (now pixels) arrival) ⌝ }
-    ensures { λ r. ⌜ imageOf (now (image .exit)) (now (lines .exit)) ≡ placed (imageOf (now (image .entry)) (now (lines .entry))) (lineOf n (now (pixels .entry)) arrival) ⌝ }
+    ensures { λ r. ⌜ imageOf (now (image .exit)) (now (lines .exit)) ≡ placed (imageOf (now (image .entry)) (now (lines .entry)))
+        (lineOf n (now (pixels .entry)) arrival) ⌝ }
 {
     octets::put(image, Line::PIXELS * n, pixels);
     lines[n] = number(lines[n], arrival);
@@ -58,7 +59,8 @@ fn lay(n: usize, pixels: &[u8], arrival: u32, image: &mut [u8], lines: &mut [u32
 // Places a line, unless it is held with other pixels: refusal 42, and nothing lent changes.
 fn place_line(line: u8, pixels: &[u8], arrival: u32, image: &mut [u8], lines: &mut [u32]) -> Placed
     requires { ⌜ Fits (imageOf (now image) (now lines)) (lineOf line (now pixels) arrival) ⌝ }
-    ensures { λ r. ⌜ observed r (imageOf (now (image .exit)) (now (lines .exit))) ≡ placing (imageOf (now (image .entry)) (now (lines .entry))) (lineOf line (now (pixels .entry)) arrival) ⌝ }
+    ensures { λ r. ⌜ observed r (imageOf (now (image .exit)) (now (lines .exit))) ≡ placing
+        (imageOf (now (image .entry)) (now (lines .entry))) (lineOf line (now (pixels .entry)) arrival) ⌝ }
 {
     let n = line as usize;
     if held_otherwise(n, pixels, image, lines) {
@@ -78,7 +80,8 @@ fn bring(
     lines: &mut [u32],
 ) -> Placed
     requires { ⌜ Brings content (now packet) (imageOf (now image) (now lines)) ⌝ }
-    ensures { λ r. ⌜ observed r (imageOf (now (image .exit)) (now (lines .exit))) ≡ brought (now (packet .entry)) arrival wanted (imageOf (now (image .entry)) (now (lines .entry))) content ⌝ }
+    ensures { λ r. ⌜ observed r (imageOf (now (image .exit)) (now (lines .exit))) ≡ brought (now (packet .entry)) arrival wanted
+        (imageOf (now (image .entry)) (now (lines .entry))) content ⌝ }
 {
     let Content::Line(l) = content else {
         return Placed::Refused(answer::NOT_LINE);
@@ -98,7 +101,8 @@ pub fn place(
     image: &mut [u8],
     lines: &mut [u32],
 ) -> Placed
-    ensures { λ r. ⌜ Places (now (packet .entry)) arrival wanted (imageOf (now (image .entry)) (now (lines .entry))) r (imageOf (now (image .exit)) (now (lines .exit))) ⌝ }
+    ensures { λ r. ⌜ Places (now (packet .entry)) arrival wanted (imageOf (now (image .entry)) (now (lines .entry))) r
+        (imageOf (now (image .exit)) (now (lines .exit))) ⌝ }
 {
     if (image.len() < OCTETS) | (lines.len() < LINES) {
         return Placed::Refused(answer::IMAGE_SHORT);

@@ -1,11 +1,10 @@
 -- What an export answers and leaves, at each of its ends.
-use Prim.Native.Nat.{ℕ, _+_, _≤_, _<_}
+use Prim.Native.Nat.{ℕ, _≤_, _<_}
 use mathlib.Core.Path.{_≡_, refl, sym, ap, _∙_}
 use mathlib.Core.Bool.{Bool, true, false, false≢true}
 use mathlib.Core.List.{List, [], _∷_}
 use native.Mathlib.Omega.{arith}
 use lib.ListN.{length}
-use lib.Dec.{ltb, eqb}
 use borrow.Author.Tests.{lt-ltb, le-ltb, eqb-true, not-false}
 use Rattle.octets.specs.Pick.{pick}
 use Rattle.octets.specs.Parts.{written}
@@ -20,7 +19,7 @@ use Rattle.frame.proofs.Accepts.{accepts}
 use Rattle.rules.specs.Packets.{cut, total}
 use Rattle.lengths.specs.Lengths.{lengthsWrong}
 use Rattle.kiss_writer.specs.Export.{streamOf, told, firstBad, exporting, Exports}
-use Rattle.kiss_writer.specs.Asked.{Checked, Frames, Room}
+use Rattle.kiss_writer.specs.Asked.{Checked, Frames}
 use Rattle.kiss_writer.specs.declared.Exported.{Exported}
 use Rattle.kiss_writer.specs.declared.Exported.the-variants.{Length, Refused}
 
@@ -34,7 +33,8 @@ pub good-accepted : (t : ℕ) (f : List ℕ) (fs : List (List ℕ)) → firstBad
 unfolding firstBad pick
 good-accepted t f fs h = go (readFrame t f .accepted) refl h
   where
-    go : (b : Bool) → readFrame t f .accepted ≡ b → pick b (firstBad t fs) (refuseAt 0 (readFrame t f .refusal) (readFrame t f .octet)) .accepted ≡ true
+    go : (b : Bool) → readFrame t f .accepted ≡ b → pick b (firstBad t fs)
+        (refuseAt 0 (readFrame t f .refusal) (readFrame t f .octet)) .accepted ≡ true
         → (readFrame t f .accepted ≡ true) × (firstBad t fs .accepted ≡ true)
     go true e h = (e, h)
     go false e h = absurd (false≢true h)
@@ -60,7 +60,8 @@ module _ (t : ℕ) (d ns out : List ℕ) where
   refuses-2 e h = refuses (of-plain e ∙ picked _ _ _ (lt-ltb _ _ h))
 
   module _ (h : t ≤ longestTime) where
-    pub refuses-51 : {q : Refusal} {b : Bool} → q ≡ plain no.fieldRange → b ≡ lengthsWrong ns (length d) → b ≡ true → Exports t d ns out (Refused q) out
+    pub refuses-51 : {q : Refusal} {b : Bool} → q ≡ plain no.fieldRange → b ≡ lengthsWrong ns (length d) → b ≡ true → Exports t d ns out
+        (Refused q) out
     unfolding exporting
     refuses-51 e k w = refuses (of-plain e ∙ passed _ _ _ _ (le-ltb _ _ h) (picked _ _ _ (sym k ∙ w)))
 
@@ -69,7 +70,8 @@ module _ (t : ℕ) (d ns out : List ℕ) where
       unfolding exporting
       refuses-bad {q = q} e f =
           let g : refuseAt 0 (q .number) (q .octet) ≡ firstBad t (cut d ns) = ap told (sym f) ∙ e in
-          refuses (g ∙ passed _ _ _ _ (le-ltb _ _ h) (passed _ _ _ _ (sym k ∙ w) (passed _ _ _ _ (ap (λ (r : Told ℕ). r .accepted) (sym g)) refl)))
+          refuses (g ∙ passed _ _ _ _ (le-ltb _ _ h)
+          (passed _ _ _ _ (sym k ∙ w) (passed _ _ _ _ (ap (λ (r : Told ℕ). r .accepted) (sym g)) refl)))
 
       module _ {r : Exported} {m : ℕ} (e : told r ≡ firstBad t (cut d ns)) (f : r ≡ Length m) where
         none-bad : firstBad t (cut d ns) .accepted ≡ true
@@ -78,10 +80,12 @@ module _ (t : ℕ) (d ns out : List ℕ) where
         pub frames-good : Frames d ns
         frames-good = record { adds = adds-up ns (length d) k w; checked = checked t (cut d ns) none-bad }
 
-        pub refuses-50 : {q : Refusal} → q ≡ plain no.outputShort → length out < length (streamOf (cut d ns)) → Exports t d ns out (Refused q) out
+        pub refuses-50 : {q : Refusal} → q ≡ plain no.outputShort → length out < length (streamOf (cut d ns)) → Exports t d ns out
+            (Refused q) out
         unfolding exporting
         refuses-50 i l =
-            refuses (of-plain i ∙ passed _ _ _ _ (le-ltb _ _ h) (passed _ _ _ _ (sym k ∙ w) (picked _ _ _ (lt-ltb _ _ l) ∙ picked _ _ _ none-bad)))
+            refuses (of-plain i ∙ passed _ _ _ _ (le-ltb _ _ h)
+            (passed _ _ _ _ (sym k ∙ w) (picked _ _ _ (lt-ltb _ _ l) ∙ picked _ _ _ none-bad)))
 
         pub writes : {n : ℕ} {out′ : List ℕ} → length (streamOf (cut d ns)) ≤ length out
             → (n ≡ length (streamOf (cut d ns))) × (out′ ≡ written (streamOf (cut d ns)) out) → Exports t d ns out (Length n) out′

@@ -3,21 +3,18 @@ use Prim.Native.Nat.{ℕ, zero, suc, _+_, _≤_, _<_}
 use mathlib.Core.Path.{_≡_, refl, sym, ap, ap₂, subst, _∙_}
 use mathlib.Core.Bool.{Bool, true, false, false≢true}
 use mathlib.Core.List.{List, [], _∷_, _++_, map, append-assoc}
-use mathlib.Core.Option.{some}
 use native.Mathlib.Omega.{arith}
-use lib.ListN.{length, getD, take, drop}
+use lib.ListN.{length, take, drop}
 use lib.Seq.{take-all, take-append-seam, getD-drop}
 use lib.Dec.{ltb, eqb}
-use borrow.Author.Tests.{ltb-true, ltb-false}
 use Rattle.octets.specs.Numbers.{at}
 use Rattle.octets.specs.Pick.{pick}
-use Rattle.octets.specs.Parts.{written}
 use Rattle.octets.proofs.Choices.{picked, not-picked}
 use Rattle.bits.specs.Rows.{ones}
 use Rattle.bits.specs.Rows.Order.{lowFirst}
 use Rattle.crc.specs.Check.{before, withCheck}
 use Rattle.crc.proofs.Ends as crc
-use Rattle.answer.specs.Told.{Told, accept, refuse}
+use Rattle.answer.specs.Told.{Told, accept}
 use Rattle.answer.proofs.Told.{refuse-or-accept, same-fields}
 use Rattle.frame.specs.Limits.{longestTime}
 use Rattle.frame.specs.Frame.{readFrame}
@@ -27,11 +24,11 @@ use Rattle.rules.specs.Packets as rules
 use Rattle.rules.specs.Packets.{cut}
 use Rattle.lengths.specs.Lengths.{lengthsWrong}
 use Rattle.stretch.specs.Stretch.{Stretch, found, clipped, mostKept}
-use Rattle.kiss.specs.Stream.{mark, dataFrame, parted, allButLast, inner, escaped, unescaped, typed, stretchOf, stretchesOf, stretchesIn}
+use Rattle.kiss.specs.Stream.{mark, dataFrame, parted, allButLast, escaped, typed, stretchOf, stretchesOf, stretchesIn}
 use Rattle.kiss.proofs.Pieces.{in-any-pieces}
 use Rattle.kiss.proofs.Written.{parted-none, escapes-undone}
 use Rattle.kiss_writer.specs.Export.{blockOf, streamOf, firstBad, roomFor, exporting}
-use Rattle.kiss_writer.specs.Back.{Holds, CallsFoundAgain}
+use Rattle.kiss_writer.specs.Back.{CallsFoundAgain}
 use Rattle.kiss_writer.proofs.Answers.{good-accepted}
 
 -- ---- one frame
@@ -80,7 +77,9 @@ front-snoc p q (r ∷ ps) = refl
 
 front-parts : (fs : List (List ℕ)) → allButLast (parts fs ++ [] ∷ []) ≡ parts fs
 front-parts [] = refl
-front-parts (f ∷ fs) = front-snoc (escaped (dataFrame ∷ before f)) [] (parts fs) ∙ ap (λ (r : List (List ℕ)). escaped (dataFrame ∷ before f) ∷ r) (front-parts fs)
+front-parts (f ∷ fs) =
+    front-snoc (escaped (dataFrame ∷ before f)) [] (parts fs) ∙ ap (λ (r : List (List ℕ)). escaped (dataFrame ∷ before f) ∷ r)
+    (front-parts fs)
 
 found-parts : (fs : List (List ℕ)) → AllRight fs → stretchesOf (parts fs) ≡ map found fs
 found-parts [] r = refl
@@ -88,7 +87,8 @@ found-parts (f ∷ fs) r = ap₂ (λ (x y : List Stretch). x ++ y) (found-block 
 
 stream-holds : (fs : List (List ℕ)) → AllRight fs → stretchesIn (streamOf fs) ≡ map found fs
 unfolding stretchesIn pick
-stream-holds fs r = ap (λ (ps : List (List ℕ)). stretchesOf (allButLast ps)) (parted-blocks fs) ∙ ap stretchesOf (front-parts fs) ∙ found-parts fs r
+stream-holds fs r =
+    ap (λ (ps : List (List ℕ)). stretchesOf (allButLast ps)) (parted-blocks fs) ∙ ap stretchesOf (front-parts fs) ∙ found-parts fs r
 
 clipped-none : (fs : List (List ℕ)) → AllRight fs → map clipped (map found fs) ≡ map found fs
 clipped-none [] r = refl
@@ -137,10 +137,12 @@ calls-found-again t d ns out n out′ small x =
     let w = of-answer t d ns out n (x .answers) in
     let r = all-right t d ns small (w .good) in
     let s : take n out′ ≡ streamOf (cut d ns) =
-    ap₂ (λ (k : ℕ) (o : List ℕ). take k o) (sym (w .length)) (x .leaves ∙ sym (picked true _ _ refl)) ∙ take-append-seam (streamOf (cut d ns)) _ in
+    ap₂ (λ (k : ℕ) (o : List ℕ). take k o) (sym (w .length)) (x .leaves ∙ sym (picked true _ _ refl)) ∙ take-append-seam
+    (streamOf (cut d ns)) _ in
     record {
       whole = ap stretchesIn s ∙ stream-holds (cut d ns) r;
       pieces = λ kept pieces told l j scans.
           in-any-pieces kept pieces told l scans
-          ∙ ap (λ (o : List ℕ). map clipped (stretchesIn o)) (j ∙ s) ∙ ap (map clipped) (stream-holds (cut d ns) r) ∙ clipped-none (cut d ns) r;
+          ∙ ap (λ (o : List ℕ). map clipped (stretchesIn o)) (j ∙ s) ∙ ap (map clipped) (stream-holds (cut d ns) r) ∙ clipped-none
+          (cut d ns) r;
     }

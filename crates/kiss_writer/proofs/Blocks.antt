@@ -1,6 +1,6 @@
 -- Frames gone over one after another.
-use Prim.Native.Nat.{ℕ, suc, _+_, _-_, _≤_, _<_}
-use mathlib.Core.Path.{_≡_, refl, sym, ap, subst, _∙_}
+use Prim.Native.Nat.{ℕ, _+_, _-_, _≤_, _<_}
+use mathlib.Core.Path.{_≡_, sym, ap, subst, _∙_}
 use mathlib.Core.Bool.{Bool, true, false}
 use mathlib.Core.List.{List, [], _∷_, _++_, map}
 use native.Mathlib.Nat.{zero-add}
@@ -14,7 +14,7 @@ use Rattle.crc.specs.Check.{before}
 use Rattle.rules.specs.Packets.{joined, cut, total}
 use Rattle.rules.proofs.Lengths.{total-all}
 use Rattle.lengths.proofs.Reached.{Reached, reached-first, reached-fits, reached-next, cut-here, cut-over}
-use Rattle.kiss.specs.Stream.{mark, escape, forMark, forEscape, dataFrame, escapedOctet, escaped}
+use Rattle.kiss.specs.Stream.{mark, escape, forMark, forEscape, escapedOctet, escaped}
 use Rattle.kiss_writer.specs.Export.{bodyBlock, blockOf, streamOf}
 use Rattle.kiss_writer.specs.Asked.{BlockRoom, Checked, Frames, Room}
 use Rattle.kiss_writer.proofs.Laid.{Laying, laying-first, laying-part, laying-end}
@@ -79,7 +79,8 @@ module _ {d ns : List ℕ} {at i : ℕ} (t : Standing d ns at i) where
     pub body-is : take ((at + getD ns i 0) - 2 - at) (drop at d) ≡ before (take (getD ns i 0) (drop at d))
     body-is =
         let k : (at + getD ns i 0) - 2 - at ≡ length (take (getD ns i 0) (drop at d)) - 2 = omega (arith, whole, long) in
-        ap (λ (n : ℕ). take n (drop at d)) k ∙ sym (take-take (length (take (getD ns i 0) (drop at d)) - 2) (getD ns i 0) (drop at d) (omega (arith, whole)))
+        ap (λ (n : ℕ). take n (drop at d)) k ∙ sym
+        (take-take (length (take (getD ns i 0) (drop at d)) - 2) (getD ns i 0) (drop at d) (omega (arith, whole)))
 
     pub left-here : left d ns at i ≡ bodyBlock (take ((at + getD ns i 0) - 2 - at) (drop at d)) ++ left d ns (at + getD ns i 0) (i + 1)
     left-here =
@@ -101,26 +102,27 @@ summing-first f = record { standing = standing-first f; few = omega arith; even 
 
 module _ {d ns : List ℕ} {count at i : ℕ} (t : Summing d ns count at i) where
   module _ (h : i < length ns) (r : ℕ)
-      (e : length (escaped (take ((at + getD ns i 0) - 2 - at) (drop at d))) ≡ length (take ((at + getD ns i 0) - 2 - at) (drop at d)) + r) where
-    pub summing-few : r ≤ getD ns i 0
-    summing-few = omega (arith, e, escaped-short (take ((at + getD ns i 0) - 2 - at) (drop at d)), length-body (t .standing) h)
+      (e : length (escaped (take ((at + getD ns i 0) - 2 - at) (drop at d))) ≡ length (take ((at + getD ns i 0) - 2 - at) (drop at d)) + r)
+    where
+      pub summing-few : r ≤ getD ns i 0
+      summing-few = omega (arith, e, escaped-short (take ((at + getD ns i 0) - 2 - at) (drop at d)), length-body (t .standing) h)
 
-    pub summing-next : Summing d ns (count + r) (at + getD ns i 0) (i + 1)
-    summing-next =
-        record {
-          standing = standing-next (t .standing) h;
-          few = omega (arith, t .few, summing-few);
-          even =
-              omega (
-                arith,
-                t .even,
-                ap length (left-here (t .standing) h),
-                length-append (bodyBlock (take ((at + getD ns i 0) - 2 - at) (drop at d))) (left d ns (at + getD ns i 0) (i + 1)),
-                length-block (take ((at + getD ns i 0) - 2 - at) (drop at d)),
-                e,
-                length-body (t .standing) h,
-              );
-        }
+      pub summing-next : Summing d ns (count + r) (at + getD ns i 0) (i + 1)
+      summing-next =
+          record {
+            standing = standing-next (t .standing) h;
+            few = omega (arith, t .few, summing-few);
+            even =
+                omega (
+                  arith,
+                  t .even,
+                  ap length (left-here (t .standing) h),
+                  length-append (bodyBlock (take ((at + getD ns i 0) - 2 - at) (drop at d))) (left d ns (at + getD ns i 0) (i + 1)),
+                  length-block (take ((at + getD ns i 0) - 2 - at) (drop at d)),
+                  e,
+                  length-body (t .standing) h,
+                );
+          }
 
   pub summing-end : length ns ≤ i → length (streamOf (cut d ns)) ≡ length d + 1 + count
   summing-end h = omega (arith, t .even, ap length (left-over (t .standing) h), at-end (t .standing) h)
@@ -134,7 +136,12 @@ pub record Writing (d ns o₀ o : List ℕ) (n at i : ℕ) : Type 0 where
 
 pub writing-first : {d ns o : List ℕ} → Room d ns o → Writing d ns (set o 0 mark) (set o 0 mark) 1 0 0
 writing-first {d} {ns} {o} r =
-    record { standing = standing-first (r .frames); room = simp length-set (r .room); laying = laying-first (set o 0 mark) 1 (joined (map blockOf (cut d ns))) }
+    record {
+      standing = standing-first (r .frames);
+      room = simp length-set (r .room);
+      laying = laying-first (set o 0 mark) 1
+          (joined (map blockOf (cut d ns)));
+    }
 
 module _ {d ns o₀ o : List ℕ} {n at i : ℕ} (t : Writing d ns o₀ o n at i) where
   module _ (h : i < length ns) where
@@ -153,7 +160,8 @@ module _ {d ns o₀ o : List ℕ} {n at i : ℕ} (t : Writing d ns o₀ o n at i
         }
 
     pub writing-next : {n′ : ℕ} {o′ : List ℕ}
-        → (n′ ≡ n + length (bodyBlock (take ((at + getD ns i 0) - 2 - at) (drop at d)))) × (o′ ≡ sets o n (bodyBlock (take ((at + getD ns i 0) - 2 - at) (drop at d))))
+        → (n′ ≡ n + length (bodyBlock (take ((at + getD ns i 0) - 2 - at) (drop at d)))) ×
+        (o′ ≡ sets o n (bodyBlock (take ((at + getD ns i 0) - 2 - at) (drop at d))))
         → Writing d ns o₀ o′ n′ (at + getD ns i 0) (i + 1)
     writing-next e =
         record {
@@ -161,11 +169,13 @@ module _ {d ns o₀ o : List ℕ} {n at i : ℕ} (t : Writing d ns o₀ o n at i
           room = t .room;
           laying =
               laying-part (bodyBlock (take ((at + getD ns i 0) - 2 - at) (drop at d)))
-              (subst (λ (l : List ℕ). Laying o₀ 1 (joined (map blockOf (cut d ns))) o n l) (left-here (t .standing) h) (t .laying)) (e .1) (e .0);
+              (subst (λ (l : List ℕ). Laying o₀ 1 (joined (map blockOf (cut d ns))) o n l) (left-here (t .standing) h) (t .laying)) (e .1)
+              (e .0);
         }
 
 pub writing-end : (d ns o : List ℕ) {o₁ : List ℕ} {n at i : ℕ} → Writing d ns (set o 0 mark) o₁ n at i → length ns ≤ i
     → (n ≡ length (streamOf (cut d ns))) × (o₁ ≡ written (streamOf (cut d ns)) o)
 writing-end d ns o {o₁} {n} t h =
-    let e = laying-end (subst (λ (l : List ℕ). Laying (set o 0 mark) 1 (joined (map blockOf (cut d ns))) o₁ n l) (left-over (t .standing) h) (t .laying)) in
+    let e = laying-end (subst (λ (l : List ℕ). Laying (set o 0 mark) 1 (joined (map blockOf (cut d ns))) o₁ n l) (left-over (t .standing) h)
+    (t .laying)) in
     (omega (arith, e .0), e .1 ∙ sets-eq (streamOf (cut d ns)) o 0 (omega (arith, t .room, length-set o 0 mark)) ∙ rw zero-add)

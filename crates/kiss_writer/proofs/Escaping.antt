@@ -1,5 +1,5 @@
 -- Octets escaped one after another.
-use Prim.Native.Nat.{ℕ, suc, _+_, _≤_, _<_}
+use Prim.Native.Nat.{ℕ, _+_, _≤_, _<_}
 use mathlib.Core.Path.{_≡_, refl, sym, ap, subst, _∙_}
 use mathlib.Core.Bool.{Bool, true, false, _||_, true≢false, false≢true}
 use mathlib.Core.List.{List, [], _∷_, _++_, append-assoc}
@@ -68,7 +68,14 @@ module _ {xs : List ℕ} {count i : ℕ} (t : Counting xs count i) where
       record {
         inside = omega arith;
         few = omega (arith, t .few);
-        even = omega (arith, t .even, ap length (escaped-more xs i h), length-append (escapedOctet (getD xs i 0)) (escaped (drop (i + 1) xs)), wide (getD xs i 0) e);
+        even = omega (
+          arith,
+          t .even,
+          ap length (escaped-more xs i h),
+          length-append (escapedOctet (getD xs i 0))
+              (escaped (drop (i + 1) xs)),
+          wide (getD xs i 0) e,
+        );
       }
 
   pub counting-none : i < length xs → (eqb (getD xs i 0) mark || eqb (getD xs i 0) escape) ≡ false → Counting xs count (i + 1)
@@ -76,7 +83,14 @@ module _ {xs : List ℕ} {count i : ℕ} (t : Counting xs count i) where
       record {
         inside = omega arith;
         few = omega (arith, t .few);
-        even = omega (arith, t .even, ap length (escaped-more xs i h), length-append (escapedOctet (getD xs i 0)) (escaped (drop (i + 1) xs)), narrow (getD xs i 0) e);
+        even = omega (
+          arith,
+          t .even,
+          ap length (escaped-more xs i h),
+          length-append (escapedOctet (getD xs i 0))
+              (escaped (drop (i + 1) xs)),
+          narrow (getD xs i 0) e,
+        );
       }
 
   pub counting-end : length xs ≤ i → length (escaped xs) ≡ length xs + count
@@ -155,13 +169,15 @@ module _ {o₀ body : List ℕ} {k : ℕ} {o : List ℕ} {n i : ℕ} (t : Block 
     next : (u : List ℕ) → escapedOctet (getD body i 0) ≡ u → Laying o₀ k (closed body) o n (u ++ closed (drop (i + 1) body))
     next u e =
         subst (λ (l : List ℕ). Laying o₀ k (closed body) o n l)
-        (ap (λ (l : List ℕ). l ++ mark ∷ []) (escaped-more body i h) ∙ append-assoc (escapedOctet (getD body i 0)) _ _ ∙ ap (λ (l : List ℕ). l ++ closed (drop (i + 1) body)) e)
+        (ap (λ (l : List ℕ). l ++ mark ∷ []) (escaped-more body i h) ∙ append-assoc (escapedOctet (getD body i 0)) _ _ ∙ ap
+        (λ (l : List ℕ). l ++ closed (drop (i + 1) body)) e)
         (t .laying)
 
     pub block-mark : getD body i 0 ≡ mark → Block o₀ body k (set (set o n escape) (n + 1) forMark) (n + 2) (i + 1)
     block-mark e = record { inside = omega arith; few = t .few; room = t .room; laying = laying-two (next _ (for-mark _ e)) }
 
-    pub block-escape : (getD body i 0 ≡ mark → ⊥) → getD body i 0 ≡ escape → Block o₀ body k (set (set o n escape) (n + 1) forEscape) (n + 2) (i + 1)
+    pub block-escape : (getD body i 0 ≡ mark → ⊥) → getD body i 0 ≡ escape → Block o₀ body k (set (set o n escape) (n + 1) forEscape)
+        (n + 2) (i + 1)
     block-escape m e = record { inside = omega arith; few = t .few; room = t .room; laying = laying-two (next _ (for-escape _ m e)) }
 
     pub block-itself : (getD body i 0 ≡ mark → ⊥) → (getD body i 0 ≡ escape → ⊥) → Block o₀ body k (set o n (getD body i 0)) (n + 1) (i + 1)

@@ -1,10 +1,10 @@
 -- Octets laid one after another.
-use Prim.Native.Nat.{ℕ, suc, _+_, _≤_, _<_}
+use Prim.Native.Nat.{ℕ, suc, _+_}
 use mathlib.Core.Path.{_≡_, refl, sym, ap, ap₂, _∙_}
-use mathlib.Core.List.{List, [], _∷_, _++_, append-nil}
+use mathlib.Core.List.{List, [], _∷_, _++_}
 use native.Mathlib.Omega.{arith}
 use native.Mathlib.Numerals.{add-one}
-use lib.ListN.{length, set, length-set, length-append}
+use lib.ListN.{length, set, length-append}
 use lib.Seq.{sets, length-sets}
 
 pub sets-append : (u : List ℕ) (o : List ℕ) (n : ℕ) (s : List ℕ) → sets o n (u ++ s) ≡ sets (sets o n u) (n + length u) s
@@ -23,7 +23,8 @@ pub laying-first : (o : List ℕ) (k : ℕ) (all : List ℕ) → Laying o k all 
 laying-first o k all = record { same = refl; ends = refl; lays = refl }
 
 module _ {o₀ : List ℕ} {k : ℕ} {all : List ℕ} {o : List ℕ} {n : ℕ} where
-  pub laying-part : (u : List ℕ) {left : List ℕ} {o′ : List ℕ} {n′ : ℕ} → Laying o₀ k all o n (u ++ left) → o′ ≡ sets o n u → n′ ≡ n + length u
+  pub laying-part : (u : List ℕ) {left : List ℕ} {o′ : List ℕ} {n′ : ℕ} → Laying o₀ k all o n (u ++ left) → o′ ≡ sets o n u
+      → n′ ≡ n + length u
       → Laying o₀ k all o′ n′ left
   laying-part u {left} t e f =
       record {

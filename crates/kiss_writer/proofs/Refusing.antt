@@ -1,8 +1,7 @@
 -- Laws of the loop that looks for the first bad frame.
 use Prim.Native.Nat.{ℕ, _+_, _-_, _≤_, _<_}
 use mathlib.Core.Path.{_≡_, refl, sym, ap, _∙_}
-use mathlib.Core.Bool.{true, false}
-use mathlib.Core.List.{List, [], _∷_}
+use mathlib.Core.List.{List, _∷_}
 use native.Mathlib.Omega.{arith}
 use lib.ListN.{length, getD, take, drop}
 use Rattle.octets.proofs.Choices.{picked, passed}
@@ -37,21 +36,25 @@ module _ {t : ℕ} {d ns : List ℕ} {at i : ℕ} (g : Good t d ns at i) where
         → Good t d ns (at + getD ns i 0) (i + 1)
     unfolding firstBad
     good-next r f e k =
-        let a : readFrame t (take (getD ns i 0) (drop at d)) ≡ accept f = sym (ap frame.told (sym k) ∙ e ∙ ap (readFrame t) (part _ refl)) in
+        let a : readFrame t (take (getD ns i 0) (drop at d)) ≡ accept f = sym
+        (ap frame.told (sym k) ∙ e ∙ ap (readFrame t) (part _ refl)) in
         record {
           reached = reached-next (g .reached) h;
           same = passed-by a ∙ sym (ap (firstBad t) (cut-here d ns at i h)) ∙ g .same;
         }
       where
         passed-by : readFrame t (take (getD ns i 0) (drop at d)) ≡ accept f
-            → firstBad t (cut (drop (at + getD ns i 0) d) (drop (i + 1) ns)) ≡ firstBad t (take (getD ns i 0) (drop at d) ∷ cut (drop (at + getD ns i 0) d) (drop (i + 1) ns))
+            → firstBad t (cut (drop (at + getD ns i 0) d) (drop (i + 1) ns)) ≡ firstBad t
+            (take (getD ns i 0) (drop at d) ∷ cut (drop (at + getD ns i 0) d) (drop (i + 1) ns))
         passed-by a = picked _ _ _ (ap (λ (q : Told Frame). q .accepted) a)
 
-    pub good-bad : (r : FrameRead) (q : Refusal) → frame.told r ≡ readFrame t (take ((at + getD ns i 0) - at) (drop at d)) → r ≡ read.Refused q
+    pub good-bad : (r : FrameRead) (q : Refusal) → frame.told r ≡ readFrame t (take ((at + getD ns i 0) - at) (drop at d))
+        → r ≡ read.Refused q
         → refuseAt 0 (q .number) (q .octet) ≡ firstBad t (cut d ns)
     unfolding firstBad
     good-bad r q e k =
-        let a : readFrame t (take (getD ns i 0) (drop at d)) ≡ refuseAt noFrame (q .number) (q .octet) = sym (ap frame.told (sym k) ∙ e ∙ ap (readFrame t) (part _ refl)) in
+        let a : readFrame t (take (getD ns i 0) (drop at d)) ≡ refuseAt noFrame (q .number) (q .octet) = sym
+        (ap frame.told (sym k) ∙ e ∙ ap (readFrame t) (part _ refl)) in
         ap (λ (r : Told Frame). refuseAt 0 (r .refusal) (r .octet)) (sym a)
         ∙ passed _ _ _ _ (ap (λ (r : Told Frame). r .accepted) a) refl ∙ sym (ap (firstBad t) (cut-here d ns at i h)) ∙ g .same
 

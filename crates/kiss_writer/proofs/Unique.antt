@@ -17,7 +17,8 @@ one-export : (t : ℕ) (octets lengths out : List ℕ) (r q : Exported) (o₁ o�
     → Exports t octets lengths out r o₁ → Exports t octets lengths out q o₂ → _≡_ {A = Exported × List ℕ} (r, o₁) (q, o₂)
 one-export t octets lengths out r q o₁ o₂ a b =
     let e : r ≡ q = told-apart r q (a .answers ∙ sym (b .answers)) in
-    ap₂ {C = Exported × List ℕ} (λ r o. (r, o)) e (a .leaves ∙ ap (λ (r : Exported). pick (told r .accepted) (written (streamOf (cut octets lengths)) out) out) e ∙ sym (b .leaves))
+    ap₂ {C = Exported × List ℕ} (λ r o. (r, o)) e
+    (a .leaves ∙ ap (λ (r : Exported). pick (told r .accepted) (written (streamOf (cut octets lengths)) out) out) e ∙ sym (b .leaves))
 
 -- the answer, and the lent octets afterwards
 pub write-fixed : Fixes kwrite.ps kwrite.r {A = Exported × List ℕ} rwrite.Post (λ κs x s. (x, now (s .1 .1 .1 .0)))

@@ -10,7 +10,6 @@ use Rattle.kiss.specs.Stream.{stretchesIn}
 use Rattle.kiss.specs.Reader.{standing, fresh}
 use Rattle.kiss.specs.Statements.{Scans, joined}
 use Rattle.kiss_writer.specs.Export.{Exports}
-use Rattle.kiss_writer.specs.declared.Exported.{Exported}
 use Rattle.kiss_writer.specs.declared.Exported.the-variants.{Length}
 
 -- A stream holds these frames and nothing else, and so does a reader find that gets it in any pieces.

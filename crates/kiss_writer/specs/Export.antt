@@ -2,7 +2,6 @@
 use Prim.Native.Nat.{ℕ}
 use mathlib.Core.Path.{_≡_}
 use mathlib.Core.List.{List, [], _∷_, _++_, map}
-use mathlib.Core.Bool.{Bool, true}
 use lib.ListN.{length}
 use lib.Dec.{ltb}
 use Rattle.octets.specs.Pick.{pick}

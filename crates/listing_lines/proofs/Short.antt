@@ -22,7 +22,16 @@ accepted-short : (arrival : ℕ) (a : Accepted) → length (acceptedLine arrival
 unfolding acceptedLine
 accepted-short arrival a =
     simp length-append
-    (omega (arith, decimal-short arrival, decimal-short 0, decimal-short (a .channel), shown-short (a .lost), shown-short (a .master), decimal-short (a .packets)))
+    (omega (
+      arith,
+      decimal-short arrival,
+      decimal-short 0,
+      decimal-short (a .channel),
+      shown-short (a .lost),
+      shown-short
+          (a .master),
+      decimal-short (a .packets),
+    ))
 
 pub lines-are-short : LinesAreShort
 unfolding refusedLine packetLine turnedAwayLine
@@ -31,6 +40,10 @@ lines-are-short = record {
       (accepted-short arrival (t .fields))
       (omega (arith, each-short 32 (arrival ∷ t .refusal ∷ []) (45 ∷ 32 ∷ 45 ∷ 32 ∷ 45 ∷ 32 ∷ 45 ∷ 10 ∷ [])));
   packets = λ first arrival size t. either-short (t .accepted) _ _
-      (omega (arith, numbers-short (first ∷ arrival ∷ t .fields .apid ∷ t .fields .sequence .0 ∷ t .fields .service ∷ t .fields .subtype ∷ []) size))
+      (omega (
+        arith,
+        numbers-short (first ∷ arrival ∷ t .fields .apid ∷ t .fields .sequence .0 ∷ t .fields .service ∷ t .fields .subtype ∷
+            []) size,
+      ))
       (omega (arith, numbers-short (first ∷ arrival ∷ t .refusal ∷ []) size));
 }

@@ -37,7 +37,8 @@ refusedLine arrival refusal = line (decimal arrival) (decimal refusal ∷ dash �
 unfoldable pub packetLine : ℕ → ℕ → Packet → ℕ → List ℕ
 packetLine first arrival p size =
     line (80 ∷ [])
-    (decimal first ∷ decimal arrival ∷ decimal (p .apid) ∷ decimal (p .sequence .0) ∷ decimal (p .service) ∷ decimal (p .subtype) ∷ decimal size ∷ [])
+    (decimal first ∷ decimal arrival ∷ decimal (p .apid) ∷ decimal (p .sequence .0) ∷ decimal (p .service) ∷ decimal
+    (p .subtype) ∷ decimal size ∷ [])
 
 -- Q, the same two arrival numbers, refusal, length.
 unfoldable pub turnedAwayLine : ℕ → ℕ → ℕ → ℕ → List ℕ

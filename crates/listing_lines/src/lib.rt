@@ -8,14 +8,15 @@ ghost use Rattle.decimal.specs.Text.{longestNumber, decimal, each};
 ghost use Rattle.decimal.specs.Laid.{Laid, Puts};
 ghost use Rattle.packet.specs.Packet.{told as toldPacket};
 ghost use Rattle.session.specs.Step.{told as toldStep};
-ghost use Rattle.listing_lines.specs.Text.{longestLine, shown, acceptedLine, refusedLine, packetLine, turnedAwayLine, packetText, answerText, header, badRecording};
+ghost use Rattle.listing_lines.specs.Text.{longestLine, shown, acceptedLine, refusedLine, packetLine, turnedAwayLine, packetText};
+ghost use Rattle.listing_lines.specs.Text.{answerText, header, badRecording};
 use counts::Loss;
 use packet::Packet;
 use packet::PacketRead;
 use session::Accepted;
 use session::StepAnswer;
 
-// The most octets that a line takes. With less than that there, a call here lets out be, and answers the index that it was given.
+// The most octets that a line takes. With less room a call here leaves `out` unchanged and returns the index that it was given.
 pub const LINE: usize = 80;
 
 // The listing's first line from index at on, and the index behind it.
@@ -173,7 +174,8 @@ fn turned_away(
 fn lettered(out: &mut [u8], at: usize, x: u8, list: &[u32], size: u16) -> usize
     requires { ⌜ at + longestLine ≤ length (now out) ⌝ }
     requires { ⌜ length (now list) ≤ 6 ⌝ }
-    ensures { λ r. ⌜ Laid longestLine (x ∷ 32 ∷ each 32 (now (list .entry)) (decimal size ++ (10 ∷ []))) (now (out .entry)) at (now (out .exit)) r ⌝ }
+    ensures { λ r. ⌜ Laid longestLine (x ∷ 32 ∷ each 32 (now (list .entry)) (decimal size ++ (10 ∷ []))) (now (out .entry)) at
+        (now (out .exit)) r ⌝ }
 {
     let first = at + 2;
     octets::put(out, at, &[x, b' ']);

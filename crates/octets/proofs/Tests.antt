@@ -2,7 +2,8 @@
 use mathlib.Core.Path.{_≡_, refl}
 use mathlib.Core.Bool.{Bool, true, false, true≢false, false≢true, _||_, _&&_}
 use mathlib.Core.Logic.{_⊎_, inl, inr}
-use borrow.Author.Tests.{lt-ltb, le-ltb, le-leb, lt-leb, eq-eqb, ne-eqb, leb-true, ltb-true, not-true, ltb-false, leb-false, eqb-true, not-false}
+use borrow.Author.Tests.{lt-ltb, le-ltb, le-leb, lt-leb, eq-eqb, ne-eqb, leb-true, ltb-true, not-true, ltb-false, leb-false, eqb-true}
+use borrow.Author.Tests.{not-false}
 use borrow.Author.Needs.{needs}
 
 -- where a contract speaks of tests and the code's branches of facts
@@ -33,4 +34,5 @@ and-false true b h = inr h
 and-false false b h = inl refl
 
 -- where a test is known and the facts behind it are asked
-pub ruleset facts = (or-left, or-right, and-true-left, and-true-right, leb-true, ltb-true, not-true, ltb-false, leb-false, eqb-true, not-false)
+pub ruleset facts =
+    (or-left, or-right, and-true-left, and-true-right, leb-true, ltb-true, not-true, ltb-false, leb-false, eqb-true, not-false)

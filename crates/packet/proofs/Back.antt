@@ -20,13 +20,13 @@ use Rattle.bits.specs.Rows.{zeros}
 use Rattle.bits.specs.Rows.Order.{highFirst}
 use Rattle.crc.specs.Check.{packetCheck, withCheck, checkWrong}
 use Rattle.crc.proofs.Ends.{found}
-use Rattle.crc.proofs.Ends.{accepted as check-accepted}
 use Rattle.packet.specs.Packet.{lengthWrong, bitsWrong, fieldsOf, readPacket, sourceOf}
 use Rattle.packet.specs.Write.{fieldsWrong, headerOf, packetOctets}
 use Rattle.packet.specs.Asked.{InRange}
 use Rattle.packet.specs.Back.{ReadsBack, WritesBack}
 use Rattle.packet.proofs.Laws.{in-range, length-octets}
 use Rattle.packet.specs.declared.Packet.{Packet}
+use Rattle.crc.proofs.Ends.{accepted as check-accepted}
 
 length-accepts : (s : List ℕ) → 16 ≤ length s → length s ≤ 251 → length s ≡ word (at s 4) (at s 5) + 7 → lengthWrong s ≡ false
 unfolding lengthWrong

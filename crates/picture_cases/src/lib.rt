@@ -1,4 +1,5 @@
-// The reader and the writer of pictures. A greymap or an image stands in a record in runs, each of four octets: 256 times its length, and its octet.
+// The reader and the writer of pictures. A greymap or an image stands in a record in runs, each of four octets: 256 times its length, and
+// its octet.
 use greymap::PictureRead;
 use greymap::PictureWritten;
 use records::input;

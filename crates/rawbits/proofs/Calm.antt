@@ -1,21 +1,22 @@
 -- Bits among which no five 1s in a row come about, taken one by one or eight at once.
 use Prim.Native.Nat.{ℕ, zero, suc, _+_, _-_, _*_, _/_, _%_, _^_, _≤_, _<_}
-use mathlib.Core.Path.{_≡_, refl, sym, ap, ap₂, _∙_, subst}
-use mathlib.Core.Bool.{Bool, true, false, not, _&&_, true≢false, false≢true}
+use mathlib.Core.Path.{_≡_, refl, sym, ap, ap₂, _∙_}
+use mathlib.Core.Bool.{Bool, true, false}
 use mathlib.Core.List.{List, [], _∷_, _++_, append-assoc, foldl, foldl-append}
 use native.Mathlib.Omega.{arith}
 use native.Mathlib.Numerals.{add-one}
 use lib.ListN.{length, getD, take, drop, set, length-append, length-take, length-drop}
 use lib.Seq.{split-at}
 use lib.Pow.{shr-shr}
-use lib.Dec.{ltb, eqb}
-use borrow.Author.Tests.{lt-ltb, le-ltb, ltb-true, ltb-false, ne-eqb}
+use lib.Dec.{ltb}
+use borrow.Author.Tests.{lt-ltb, ltb-true, ltb-false, ne-eqb}
 use Rattle.octets.specs.Pick.{pick}
 use Rattle.octets.proofs.Tests.{and-true-left, and-true-right}
 use Rattle.bits.specs.Rows.{digit, valueOf, ones}
 use Rattle.bits.proofs.Numbers.{digit-lt}
 use Rattle.stretch.specs.declared.Found.{Found}
-use Rattle.rawbits.specs.Reader.{Standing, standing, row, latest, counted, added, stored, ends, withOne, afterOne, afterZero, after, Passing, passed}
+use Rattle.rawbits.specs.Reader.{standing, row, latest, counted, added, stored, afterOne, afterZero, after}
+use Rattle.rawbits.specs.Reader.{Passing, passed}
 use Rattle.rawbits.specs.Eight.{calm}
 use Rattle.rawbits.specs.declared.Row.{Row}
 use Rattle.rawbits.specs.declared.Reader.{Reader}
@@ -63,7 +64,8 @@ module _ (z : Bool) (k : ℕ) (lost : Bool) (m : ℕ) (r : Row) (kept : List ℕ
   calm-zero = rw (ne-eqb k 6 (λ d. omega arith), ne-eqb k 5 (λ d. omega arith), e)
 
 -- none of them ends a flag
-pub calm-passed : (s : List Bool) (z : Bool) (k : ℕ) (lost : Bool) (m : ℕ) (r : Row) (kept : List ℕ) (f : Found) (n : ℕ) → length kept ≡ n → k < 5 → calm k s ≡ true
+pub calm-passed : (s : List Bool) (z : Bool) (k : ℕ) (lost : Bool) (m : ℕ) (r : Row) (kept : List ℕ) (f : Found) (n : ℕ) → length kept ≡ n
+    → k < 5 → calm k s ≡ true
     → foldl passed (record { standing = standing (state z k lost m r) kept; found = f }) s
     ≡ record { standing = standing (state z (runAfter k s) lost (markAfter n m r s) (addedAll n r s)) (storedAll n r s kept); found = f }
 calm-passed [] z k lost m r kept f n e l h = refl
@@ -82,7 +84,8 @@ added-begun : (n : ℕ) (r : Row) (b : Bool) → r .begun < 8 → added n r b .b
 unfolding added pick
 added-begun n r b l = go (ltb (r .begun) 7) refl
   where
-    go : (t : Bool) → ltb (r .begun) 7 ≡ t → pick t (row (latest r b) (r .begun + 1) (r .whole)) (row (latest r b) 0 (counted n (r .whole))) .begun ≡ (r .begun + 1) % 8
+    go : (t : Bool) → ltb (r .begun) 7 ≡ t → pick t (row (latest r b) (r .begun + 1) (r .whole))
+        (row (latest r b) 0 (counted n (r .whole))) .begun ≡ (r .begun + 1) % 8
     go true e = omega (arith, ltb-true (r .begun) 7 e)
     go false e = omega (arith, ltb-false (r .begun) 7 e)
 
@@ -96,7 +99,8 @@ mark-ones : (n m : ℕ) (r : Row) (k : ℕ) → markAfter n m r (ones k) ≡ m
 mark-ones n m r zero = refl
 mark-ones n m r (suc k) = mark-ones n m (added n r true) k
 
-pub mark-last : (n m : ℕ) (p : List Bool) (k : ℕ) (r : Row) → r .begun < 8 → markAfter n m r (p ++ false ∷ ones k) ≡ (r .begun + length p) % 8
+pub mark-last : (n m : ℕ) (p : List Bool) (k : ℕ) (r : Row) → r .begun < 8 → markAfter n m r (p ++ false ∷ ones k) ≡
+    (r .begun + length p) % 8
 mark-last n m [] k r l = mark-ones n (r .begun) (added n r false) k ∙ (omega arith)
 mark-last n m (true ∷ p) k r l =
     let e = added-begun n r true l in
@@ -127,11 +131,14 @@ module _ (n : ℕ) where
   unfolding stored pick
   one-stored b r kept h = rw (lt-ltb (r .begun) 7 h)
 
-  few-added : (p : List Bool) (r : Row) → r .begun + length p < 8 → addedAll n r p ≡ row (shifts (r .last) p) (r .begun + length p) (r .whole)
+  few-added : (p : List Bool) (r : Row) → r .begun + length p < 8 → addedAll n r p ≡ row (shifts (r .last) p) (r .begun + length p)
+      (r .whole)
   few-added [] r h = ap (λ (k : ℕ). row (r .last) k (r .whole)) (let e : r .begun ≡ r .begun + 0 = omega arith in e)
   few-added (b ∷ p) r h =
-      ap (λ (q : Row). addedAll n q p) (one-added b r (omega arith)) ∙ few-added p (row (latest r b) (r .begun + 1) (r .whole)) (omega arith)
-      ∙ ap (λ (k : ℕ). row (shifts (r .last) (b ∷ p)) k (r .whole)) (let e : r .begun + 1 + length p ≡ r .begun + suc (length p) = omega arith in e)
+      ap (λ (q : Row). addedAll n q p) (one-added b r (omega arith)) ∙ few-added p (row (latest r b) (r .begun + 1) (r .whole))
+      (omega arith)
+      ∙ ap (λ (k : ℕ). row (shifts (r .last) (b ∷ p)) k (r .whole))
+      (let e : r .begun + 1 + length p ≡ r .begun + suc (length p) = omega arith in e)
 
   few-stored : (p : List Bool) (r : Row) (kept : List ℕ) → r .begun + length p < 8 → storedAll n r p kept ≡ kept
   few-stored [] r kept h = refl
@@ -139,7 +146,8 @@ module _ (n : ℕ) where
       ap₂ (λ (q : Row) (k : List ℕ). storedAll n q p k) (one-added b r (omega arith)) (one-stored b r kept (omega arith))
       ∙ few-stored p (row (latest r b) (r .begun + 1) (r .whole)) kept (omega arith)
 
-  all-append : (p q : List Bool) (r : Row) (kept : List ℕ) → storedAll n r (p ++ q) kept ≡ storedAll n (addedAll n r p) q (storedAll n r p kept)
+  all-append : (p q : List Bool) (r : Row) (kept : List ℕ) → storedAll n r (p ++ q) kept ≡ storedAll n (addedAll n r p) q
+      (storedAll n r p kept)
   all-append [] q r kept = refl
   all-append (b ∷ p) q r kept = all-append p q (added n r b) (stored r b kept)
 
@@ -155,15 +163,18 @@ module _ (n : ℕ) where
     unfolding added pick
     makes-whole = refl
 
-    stores-whole : (kept : List ℕ) → stored (row (shifts (r .last) p) 7 (r .whole)) c kept ≡ set kept (r .whole) (shift (shifts (r .last) p) c)
+    stores-whole : (kept : List ℕ) → stored (row (shifts (r .last) p) 7 (r .whole)) c kept ≡ set kept (r .whole)
+        (shift (shifts (r .last) p) c)
     unfolding stored pick
     stores-whole kept = refl
 
     parts-added : addedAll n r (p ++ c ∷ q) ≡ row (shifts (r .last) (p ++ c ∷ q)) (length q) (counted n (r .whole))
     parts-added =
-        foldl-append (added n) r p (c ∷ q) ∙ ap (λ (x : Row). addedAll n (added n x c) q) before-whole ∙ ap (λ (x : Row). addedAll n x q) makes-whole
+        foldl-append (added n) r p (c ∷ q) ∙ ap (λ (x : Row). addedAll n (added n x c) q) before-whole ∙ ap
+        (λ (x : Row). addedAll n x q) makes-whole
         ∙ few-added q whole (omega arith)
-        ∙ ap₂ (λ (x k : ℕ). row x k (counted n (r .whole))) (sym (foldl-append shift (r .last) p (c ∷ q))) (let e : 0 + length q ≡ length q = omega arith in e)
+        ∙ ap₂ (λ (x k : ℕ). row x k (counted n (r .whole))) (sym (foldl-append shift (r .last) p (c ∷ q)))
+        (let e : 0 + length q ≡ length q = omega arith in e)
 
     parts-stored : (kept : List ℕ) → storedAll n r (p ++ c ∷ q) kept ≡ set kept (r .whole) (shifts (r .last) (p ++ c ∷ []))
     parts-stored kept =

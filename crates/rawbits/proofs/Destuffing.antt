@@ -46,7 +46,8 @@ destuffed-ones j (suc k) = ap (λ (q : List Bool). true ∷ q) (destuffed-ones (
 pub destuffed-one : (q : List Bool) → destuffed 0 (q ++ true ∷ []) ≡ destuffed 0 q ++ true ∷ []
 destuffed-one q = destuffed-append 0 q (true ∷ [])
 
-pub destuffed-zero : (q : List Bool) (k : ℕ) → runAfter 0 q ≡ k → destuffed 0 (q ++ false ∷ []) ≡ cond (eqb k 5) (destuffed 0 q) (destuffed 0 q ++ false ∷ [])
+pub destuffed-zero : (q : List Bool) (k : ℕ) → runAfter 0 q ≡ k → destuffed 0 (q ++ false ∷ []) ≡ cond (eqb k 5) (destuffed 0 q)
+    (destuffed 0 q ++ false ∷ [])
 destuffed-zero q k e = destuffed-append 0 q (false ∷ []) ∙ ap (λ (j : ℕ). destuffed 0 q ++ cond (eqb j 5) [] (false ∷ [])) e ∙ go (eqb k 5)
   where
     go : (t : Bool) → destuffed 0 q ++ cond t [] (false ∷ []) ≡ cond t (destuffed 0 q) (destuffed 0 q ++ false ∷ [])
@@ -104,7 +105,8 @@ begins-zero (suc n) [] q = refl
 begins-zero (suc n) (false ∷ p) q = refl
 begins-zero (suc n) (true ∷ p) q = begins-zero n p q
 
-contains-split : (n : ℕ) (p q : List Bool) → contains (ones (suc n)) (p ++ false ∷ q) ≡ (contains (ones (suc n)) p || contains (ones (suc n)) q)
+contains-split : (n : ℕ) (p q : List Bool) → contains (ones (suc n)) (p ++ false ∷ q) ≡
+    (contains (ones (suc n)) p || contains (ones (suc n)) q)
 contains-split n [] q = refl
 contains-split n (b ∷ p) q =
     ap₂ (λ (x y : Bool). x || y) (begins-zero (suc n) (b ∷ p) q) (contains-split n p q)

@@ -1,24 +1,24 @@
 -- What a scan finds is the first of what there is to be found, so that scans one after another tell what the whole recording holds.
-use Prim.Native.Nat.{ℕ, zero, suc, _+_, _≤_, _<_, min}
-use mathlib.Core.Path.{_≡_, refl, sym, ap, ap₂, _∙_, subst}
+use Prim.Native.Nat.{ℕ, suc, _+_, _≤_, _<_, min}
+use mathlib.Core.Path.{_≡_, refl, sym, ap, _∙_}
 use mathlib.Core.Bool.{Bool, true, false, not, _&&_, false≢true}
 use mathlib.Core.List.{List, [], _∷_, _++_, append-assoc, append-nil, foldl, map}
 use native.Mathlib.Omega.{arith}
 use lib.ListN.{length, take, drop, take-append-drop}
 use lib.Dec.{ltb, eqb}
-use borrow.Author.Tests.{ltb-true, ltb-false, lt-ltb, eqb-true, eq-eqb, ne-eqb, not-true}
+use borrow.Author.Tests.{ltb-true, lt-ltb, eqb-true, eq-eqb, ne-eqb, not-true}
 use Rattle.octets.specs.Pick.{pick}
 use Rattle.octets.proofs.Tests.{and-true-left, and-true-right}
 use Rattle.answer.specs.Refusals.{stretchOctets, stretchAbandoned}
 use Rattle.bits.specs.Rows.{bitsOf, bitsOfAll}
 use Rattle.bits.specs.Rows.Order.{highFirst}
-use Rattle.stretch.specs.Stretch.{Stretch, mostKept, clipped, told, Fits}
+use Rattle.stretch.specs.Stretch.{Stretch, clipped, told, Fits}
 use Rattle.stretch.specs.declared.Found.{Found}
 use Rattle.stretch.specs.declared.Found.the-variants.{Nothing, Frame, Refused}
 use Rattle.rawbits.specs.Recording.{stretchesIn}
-use Rattle.rawbits.specs.Reader.{Standing, standing, row, added, stored, begun, fresh, ends, closed, five, withOne, afterOne, afterZero, after, Passing, passed, octetPassed, Outcome, further, nothing, scanned}
-use Rattle.rawbits.specs.Finding.{toldBy, toldOf, toFind, Finds, ScansFind, FindsStream, Scans, none, more, PiecesGiveTheWhole}
-use Rattle.rawbits.specs.declared.Row.{Row}
+use Rattle.rawbits.specs.Reader.{Standing, standing, row, added, stored, begun, ends, closed, five, withOne, afterOne}
+use Rattle.rawbits.specs.Reader.{afterZero, after, Passing, passed, octetPassed, Outcome, further, nothing, scanned}
+use Rattle.rawbits.specs.Finding.{toldBy, toldOf, toFind, ScansFind, FindsStream, Scans, none, more, PiecesGiveTheWhole}
 use Rattle.rawbits.specs.declared.Reader.{Reader}
 use Rattle.rawbits.proofs.Holding.{length-stored}
 use Rattle.rawbits.proofs.Folding.{fresh-tells}
@@ -60,7 +60,8 @@ module _ (n : ℕ) (a : Reader) (kept : List ℕ) (y : Young n a) (l : n < 7) wh
   young-one = go (ltb (a .ones) 5) refl (eqb (a .ones) 5 && not (five (a .row))) refl
     where
       go : (s : Bool) → ltb (a .ones) 5 ≡ s → (t : Bool) → (eqb (a .ones) 5 && not (five (a .row))) ≡ t
-          → Young (suc n) (pick s (withOne (length kept) a (a .ones + 1) (a .abandoned)) (pick t (withOne (length kept) a 6 (a .abandoned)) (withOne (length kept) a 7 true)))
+          → Young (suc n) (pick s (withOne (length kept) a (a .ones + 1) (a .abandoned))
+          (pick t (withOne (length kept) a 6 (a .abandoned)) (withOne (length kept) a 7 true)))
       go true e t f =
           record {
             begun = omega (arith, one-begun true, y .begun);
@@ -80,7 +81,9 @@ module _ (n : ℕ) (a : Reader) (kept : List ℕ) (y : Young n a) (l : n < 7) wh
           five-ones = eqb-true (a .ones) 5 (and-true-left (eqb (a .ones) 5) (not (five (a .row))) f)
 
           other : a .row .begun ≡ 5 → ⊥
-          other d = false≢true (sym (not-true (five (a .row)) (and-true-right (eqb (a .ones) 5) (not (five (a .row))) f)) ∙ rw (eq-eqb (a .row .begun) 5 d, eq-eqb (a .row .whole) 0 (y .whole)))
+          other d =
+              false≢true (sym (not-true (five (a .row)) (and-true-right (eqb (a .ones) 5) (not (five (a .row))) f)) ∙ rw
+              (eq-eqb (a .row .begun) 5 d, eq-eqb (a .row .whole) 0 (y .whole)))
 
           most : 6 ≤ a .row .begun
           most = omega (arith, other, five-ones, y .fewer (let s : a .ones < 7 = omega (arith, five-ones) in s))
@@ -96,9 +99,23 @@ module _ (n : ℕ) (a : Reader) (kept : List ℕ) (y : Young n a) (l : n < 7) wh
   unfolding afterZero pick
   young-zero = go (eqb (a .ones) 5)
     where
-      go : (t : Bool) → Young (suc n) (record { seen = a .seen; ones = 0; abandoned = a .abandoned; mark = a .row .begun; row = pick t (a .row) (added (length kept) (a .row) false) })
+      go : (t : Bool) → Young (suc n) (record {
+        seen = a .seen;
+        ones = 0;
+        abandoned = a .abandoned;
+        mark = a .row .begun;
+        row = pick t (a .row)
+            (added (length kept) (a .row) false);
+      })
       go true = record { begun = omega (arith, y .begun); whole = y .whole; fewer = λ h. omega arith; six = λ d. absurd (omega arith) }
-      go false = record { begun = omega (arith, one-begun false, y .begun); whole = none-whole false; fewer = λ h. omega arith; six = λ d. absurd (omega arith) }
+      go false =
+          record {
+            begun = omega (arith, one-begun false, y .begun);
+            whole = none-whole false;
+            fewer = λ h. omega arith;
+            six = λ d. absurd
+                (omega arith);
+          }
 
   -- how the reader stands then
   young-on : (b : Bool) → (r : Reader) × (after (standing a kept) b ≡ standing r kept) × Young (suc n) r
@@ -106,7 +123,8 @@ module _ (n : ℕ) (a : Reader) (kept : List ℕ) (y : Young n a) (l : n < 7) wh
   young-on true = (afterOne (length kept) a, rw (none-stored true), young-one)
   young-on false = (afterZero (length kept) a, go (eqb (a .ones) 5), young-zero)
     where
-      go : (t : Bool) → standing (afterZero (length kept) a) (pick t kept (stored (a .row) false kept)) ≡ standing (afterZero (length kept) a) kept
+      go : (t : Bool) → standing (afterZero (length kept) a) (pick t kept (stored (a .row) false kept)) ≡ standing
+          (afterZero (length kept) a) kept
       go true = refl
       go false = rw (none-stored false)
 
@@ -140,7 +158,8 @@ module _ (a : Standing) (b : Bool) (s t : List Bool) where
   unfolding passed toldOf pick
   told-on e h = rw e (h ∙ ap (λ (p : Passing). thenTold p s t) (rw e))
 
-  told-here : ends (a .reader) b ≡ true → length s ≤ 7 → toldOf a (b ∷ (s ++ t)) ≡ thenTold (record { standing = a; found = Nothing }) (b ∷ s) t
+  told-here : ends (a .reader) b ≡ true → length s ≤ 7 → toldOf a (b ∷ (s ++ t)) ≡ thenTold (record { standing = a; found = Nothing })
+      (b ∷ s) t
   unfolding passed toldOf pick
   told-here e l =
       let f : Found = closed (length (a .kept)) (a .reader) in
@@ -150,7 +169,8 @@ module _ (a : Standing) (b : Bool) (s t : List Bool) where
       ∙ sym (ap (λ (p : Passing). told (p .found) (p .standing .kept) ++ toldOf (p .standing) t) (q .stays))
       ∙ ap (λ (p : Passing). thenTold p s t) (rw e))
 
-eight-tell : (s : List Bool) (a : Standing) (t : List Bool) → length s ≤ 8 → toldOf a (s ++ t) ≡ thenTold (record { standing = a; found = Nothing }) s t
+eight-tell : (s : List Bool) (a : Standing) (t : List Bool) → length s ≤ 8 → toldOf a (s ++ t) ≡ thenTold
+    (record { standing = a; found = Nothing }) s t
 eight-tell [] a t l = refl
 eight-tell (b ∷ s) a t l = go (ends (a .reader) b) refl (eight-tell s (after a b) t (omega arith))
   where
@@ -184,7 +204,9 @@ fits-closed : (kept : List ℕ) (a : Reader) → Fits (closed (length kept) a) k
 unfolding closed pick
 fits-closed kept a = go (not (a .seen)) (a .abandoned) (not (eqb (a .mark) 0)) (eqb (a .row .whole) 0)
   where
-    go : (s t u v : Bool) → Fits (pick s Nothing (pick t (Refused stretchAbandoned) (pick u (Refused stretchOctets) (pick v Nothing (Frame (min (a .row .whole) (length kept))))))) kept
+    go : (s t u v : Bool) → Fits (pick s Nothing
+        (pick t (Refused stretchAbandoned) (pick u (Refused stretchOctets) (pick v Nothing (Frame (min (a .row .whole) (length kept)))))))
+        kept
     go true t u v = tt
     go false true u v = tt
     go false false true v = tt
@@ -199,9 +221,16 @@ passed-fits : {n : ℕ} (p : Passing) (b : Bool) → Fitting n p → Fitting n (
 unfolding passed pick
 passed-fits {n} p b h = go (ends (p .standing .reader) b)
   where
-    go : (t : Bool) → Fitting n (pick t (record { standing = standing (begun true) (p .standing .kept); found = closed (length (p .standing .kept)) (p .standing .reader) }) (record { standing = after (p .standing) b; found = p .found }))
+    go : (t : Bool) → Fitting n (pick t (record
+        { standing = standing (begun true) (p .standing .kept); found = closed (length (p .standing .kept)) (p .standing .reader) })
+        (record { standing = after (p .standing) b; found = p .found }))
     go true = record { long = h .long; fits = fits-closed (p .standing .kept) (p .standing .reader) }
-    go false = record { long = length-after (p .standing) b ∙ h .long; fits = fits-same (p .found) (p .standing .kept) _ (length-after (p .standing) b) (h .fits) }
+    go false =
+        record {
+          long = length-after (p .standing) b ∙ h .long;
+          fits = fits-same (p .found) (p .standing .kept) _
+              (length-after (p .standing) b) (h .fits);
+        }
 
 all-fit : {n : ℕ} (s : List Bool) (p : Passing) → Fitting n p → Fitting n (foldl passed p s)
 all-fit [] p h = h
@@ -245,7 +274,8 @@ module _ (a : Standing) (x : ℕ) (w : List ℕ) where
         same = h .same ∙ octet-fits a x .long;
       }
 
-  uses-here : (octetPassed a x .found ≡ Nothing → ⊥) → Uses a (x ∷ w) (record { standing = octetPassed a x .standing; used = 1; found = octetPassed a x .found })
+  uses-here : (octetPassed a x .found ≡ Nothing → ⊥) → Uses a (x ∷ w)
+      (record { standing = octetPassed a x .standing; used = 1; found = octetPassed a x .found })
   uses-here e =
       record {
         first = λ p. octet-tells a x p;
@@ -262,7 +292,8 @@ uses a [] = record { first = λ p. refl; inside = omega arith; some = λ h. h; a
 uses a (x ∷ w) = go (nothing (octetPassed a x .found)) refl (uses (octetPassed a x .standing) w)
   where
     go : (t : Bool) → nothing (octetPassed a x .found) ≡ t → Uses (octetPassed a x .standing) w (scanned (octetPassed a x .standing) w)
-        → Uses a (x ∷ w) (pick t (further (scanned (octetPassed a x .standing) w)) (record { standing = octetPassed a x .standing; used = 1; found = octetPassed a x .found }))
+        → Uses a (x ∷ w) (pick t (further (scanned (octetPassed a x .standing) w))
+        (record { standing = octetPassed a x .standing; used = 1; found = octetPassed a x .found }))
     go true e h = uses-on a x w (is-nothing _ e) _ h
     go false e h = uses-here a x w (not-nothing _ e)
 
@@ -286,7 +317,8 @@ scans-find a w =
 -- ---- scans one after another
 
 -- what is still to be found is told in the end
-scans-tell : {s : List ℕ} {found : List Stretch} {a : Standing} → Scans s found a → (p : List ℕ) → found ++ toFind a p ≡ map clipped (stretchesIn (s ++ p))
+scans-tell : {s : List ℕ} {found : List Stretch} {a : Standing} → Scans s found a → (p : List ℕ) → found ++ toFind a p ≡ map clipped
+    (stretchesIn (s ++ p))
 scans-tell (none {kept} l) p = finds-stream kept p l
 scans-tell (more {s} {found} {a} h w) p =
     let r = scanned a w in
@@ -297,4 +329,5 @@ scans-tell (more {s} {found} {a} h w) p =
 
 pub pieces-give-the-whole : PiecesGiveTheWhole
 unfolding toldOf
-pieces-give-the-whole s found a h = sym (append-nil found) ∙ scans-tell h [] ∙ ap (λ (x : List ℕ). map clipped (stretchesIn x)) (append-nil s)
+pieces-give-the-whole s found a h =
+    sym (append-nil found) ∙ scans-tell h [] ∙ ap (λ (x : List ℕ). map clipped (stretchesIn x)) (append-nil s)

@@ -1,27 +1,31 @@
 -- A reader that takes all bits one after another tells what stands between the flags.
-use Prim.Native.Nat.{ℕ, zero, suc, _+_, _*_, _/_, _%_, _≤_, _<_, min}
-use mathlib.Core.Path.{_≡_, refl, sym, ap, ap₂, _∙_, subst}
+use Prim.Native.Nat.{ℕ, suc, _+_, _/_, _%_, _≤_, _<_, min}
+use mathlib.Core.Path.{_≡_, refl, sym, ap, ap₂, _∙_}
 use mathlib.Core.Bool.{Bool, true, false, not, _&&_, cond}
 use mathlib.Core.List.{List, [], _∷_, _++_, append-nil, tail, dropLast, flatMap, map}
 use native.Mathlib.Omega.{arith}
 use native.Mathlib.Numerals.{add-one}
 use lib.ListN.{length, take, length-take}
-use lib.Dec.{ltb, eqb}
-use borrow.Author.Tests.{lt-ltb, le-ltb, eq-eqb, ne-eqb, eqb-true, eqb-false}
+use lib.Dec.{eqb}
+use borrow.Author.Tests.{lt-ltb, eq-eqb, ne-eqb, eqb-true, eqb-false}
 use Rattle.octets.specs.Pick.{pick}
 use Rattle.bits.specs.Rows.{ones}
 use Rattle.answer.specs.Refusals.{stretchOctets, stretchAbandoned}
 use Rattle.stretch.specs.Stretch.{Stretch, found, unread, mostKept, clipped, told}
-use Rattle.stretch.specs.declared.Found.{Found}
 use Rattle.stretch.specs.declared.Found.the-variants.{Nothing, Frame, Refused}
 use Rattle.rawbits.specs.Recording.{pieces, stretches, abandoned, destuffed, octetsOf, left, stretchOf}
-use Rattle.rawbits.specs.Reader.{Standing, standing, row, added, stored, begun, fresh, ends, closed, five, withOne, afterOne, afterZero, after}
+use Rattle.rawbits.specs.Reader.{Standing, standing, row, added, stored, begun, fresh, ends, closed, five, afterOne}
+use Rattle.rawbits.specs.Reader.{afterZero, after}
 use Rattle.rawbits.specs.Finding.{toldOf}
 use Rattle.rawbits.specs.declared.Row.{Row}
 use Rattle.rawbits.specs.declared.Reader.{Reader}
-use Rattle.rawbits.proofs.Pieces.{before, before-cons, before-append, ones-snoc, zero-piece, one-piece, seven-piece, flag-piece, last-piece, drop-last}
-use Rattle.rawbits.proofs.Destuffing.{runAfter, run-append, run-ones, run-led, destuffed-append, destuffed-ones, destuffed-one, destuffed-zero, led-more, led-long, flag-short, destuffed-some, abandoned-ones, abandoned-six, abandoned-none, abandoned-led, abandoned-seven, abandoned-more}
-use Rattle.rawbits.proofs.Holding.{length-low, Holds, holds-none, holds-begun, holds-few, holds-many, holds-most, holds-whole, holds-octets, holds-more}
+use Rattle.rawbits.proofs.Pieces.{before, before-cons, before-append, ones-snoc, zero-piece, one-piece, seven-piece, flag-piece}
+use Rattle.rawbits.proofs.Pieces.{last-piece, drop-last}
+use Rattle.rawbits.proofs.Destuffing.{runAfter, run-append, run-ones, run-led, destuffed-append, destuffed-ones, destuffed-one}
+use Rattle.rawbits.proofs.Destuffing.{destuffed-zero, led-more, led-long, flag-short, destuffed-some, abandoned-ones, abandoned-six}
+use Rattle.rawbits.proofs.Destuffing.{abandoned-led, abandoned-seven, abandoned-more}
+use Rattle.rawbits.proofs.Holding.{length-low, Holds, holds-none, holds-begun, holds-few, holds-many, holds-most, holds-whole}
+use Rattle.rawbits.proofs.Holding.{holds-octets, holds-more}
 
 abbrev state : Bool → ℕ → Bool → ℕ → Row → Reader
 state seen k lost m r = record { seen = seen; ones = k; abandoned = lost; mark = m; row = r }
@@ -71,7 +75,8 @@ module _ (p : List Bool) (r : Row) (kept : List ℕ) (h : Holds r kept (destuffe
   unfolding pick
   holds-zero = rw (destuffed-zero p (runAfter 0 p) refl, e) (go t)
     where
-      go : (t : Bool) → Holds (pick t r (added (length kept) r false)) (pick t kept (stored r false kept)) (cond t (destuffed 0 p) (destuffed 0 p ++ false ∷ []))
+      go : (t : Bool) → Holds (pick t r (added (length kept) r false)) (pick t kept (stored r false kept))
+          (cond t (destuffed 0 p) (destuffed 0 p ++ false ∷ []))
       go true = h
       go false = holds-more h false
 
@@ -106,27 +111,32 @@ module _ (z : Bool) where
         on (behind-zero (ones k) r kept g (eqb k 5) e) (ne-eqb k 6 (λ d. omega arith))
         (zero-stands (ones k) r kept g (eqb k 5) e z false (sym (abandoned-ones k l))) (λ t. refl)
 
-    lost-one : (q : List Bool) (a : abandoned q ≡ true) (l : 5 < runAfter 0 q) (h : Holds r kept (destuffed 0 q)) → Step z (lost q a l m r kept h) true
+    lost-one : (q : List Bool) (a : abandoned q ≡ true) (l : 5 < runAfter 0 q) (h : Holds r kept (destuffed 0 q)) → Step z
+        (lost q a l m r kept h) true
     unfolding after afterOne pick
     lost-one q a l h =
-        on (lost (q ++ true ∷ []) (abandoned-more q (true ∷ []) a) (rw (run-append 0 q (true ∷ [])) (omega arith)) m (added (length kept) r true) (stored r true kept)
+        on (lost (q ++ true ∷ []) (abandoned-more q (true ∷ []) a) (rw (run-append 0 q (true ∷ [])) (omega arith)) m
+        (added (length kept) r true) (stored r true kept)
         (rw (destuffed-one q) (holds-more h true))) refl refl (λ t. sym (before-append q (true ∷ []) (pieces 0 t)))
 
-    lost-zero : (q : List Bool) (a : abandoned q ≡ true) (l : 5 < runAfter 0 q) (h : Holds r kept (destuffed 0 q)) → Step z (lost q a l m r kept h) false
+    lost-zero : (q : List Bool) (a : abandoned q ≡ true) (l : 5 < runAfter 0 q) (h : Holds r kept (destuffed 0 q)) → Step z
+        (lost q a l m r kept h) false
     unfolding after afterZero pick
     lost-zero q a l h =
         let e : eqb (runAfter 0 q) 5 ≡ false = ne-eqb (runAfter 0 q) 5 (λ d. omega arith) in
         on (behind-zero q r kept h false e) refl (zero-stands q r kept h false e z true (sym a)) (λ t. refl)
 
   module _ (q : List Bool) (r : Row) (kept : List ℕ) where
-    more : (k : ℕ) → Holds r kept (destuffed 0 (q ++ false ∷ ones k)) → Holds (added (length kept) r true) (stored r true kept) (destuffed 0 (q ++ false ∷ ones (suc k)))
+    more : (k : ℕ) → Holds r kept (destuffed 0 (q ++ false ∷ ones k)) → Holds (added (length kept) r true) (stored r true kept)
+        (destuffed 0 (q ++ false ∷ ones (suc k)))
     more k h = rw (led-more q k, destuffed-one (q ++ false ∷ ones k)) (holds-more h true)
 
     led-one : (k : ℕ) → k < 5 → (l : k < 7) (h : Holds r kept (destuffed 0 (q ++ false ∷ ones k))) → Step z (led q k l r kept h) true
     unfolding after afterOne pick
     led-one k s l h =
         on (led q (suc k) (omega arith) (added (length kept) r true) (stored r true kept) (more k h)) (refl)
-        (rw (lt-ltb k 5 s) (ap (λ (i : ℕ). standing (state z i (abandoned q) (length (destuffed 0 q) % 8) (added (length kept) r true)) (stored r true kept)) (add-one k)))
+        (rw (lt-ltb k 5 s) (ap (λ (i : ℕ). standing (state z i (abandoned q) (length (destuffed 0 q) % 8) (added (length kept) r true))
+        (stored r true kept)) (add-one k)))
         (λ t. one-piece q t k)
 
     led-six : (l : 5 < 7) (h : Holds r kept (destuffed 0 (q ++ false ∷ ones 5))) → Step z (led q 5 l r kept h) true
@@ -149,7 +159,8 @@ module _ (z : Bool) where
     led-seven : (l : 6 < 7) (h : Holds r kept (destuffed 0 (q ++ false ∷ ones 6))) → Step z (led q 6 l r kept h) true
     unfolding after afterOne pick
     led-seven l h =
-        on (lost (q ++ false ∷ ones 7) (abandoned-seven q) (rw (run-led q 7) (omega arith)) (length (destuffed 0 q) % 8) (added (length kept) r true) (stored r true kept) (more 6 h)) refl
+        on (lost (q ++ false ∷ ones 7) (abandoned-seven q) (rw (run-led q 7) (omega arith)) (length (destuffed 0 q) % 8)
+        (added (length kept) r true) (stored r true kept) (more 6 h)) refl
         refl (λ t. seven-piece q t)
 
     led-zero : (k : ℕ) → k < 6 → (l : k < 7) (h : Holds r kept (destuffed 0 (q ++ false ∷ ones k))) → Step z (led q k l r kept h) false
@@ -164,19 +175,24 @@ module _ (z : Bool) where
 module _ (q : List Bool) (r : Row) (kept : List ℕ) (h : Holds r kept (destuffed 0 (q ++ false ∷ ones 6))) where
   -- what is told of whole octets
   tells-whole : length (destuffed 0 q) % 8 ≡ 0 → 0 < length (destuffed 0 q)
-      → told (pick (eqb (r .whole) 0) Nothing (Frame (min (r .whole) (length kept)))) kept ≡ found (take mostKept (octetsOf (destuffed 0 q))) ∷ []
+      → told (pick (eqb (r .whole) 0) Nothing (Frame (min (r .whole) (length kept)))) kept ≡ found
+      (take mostKept (octetsOf (destuffed 0 q))) ∷ []
   unfolding pick
   tells-whole w s =
-      rw (ne-eqb (r .whole) 0 (λ e. omega (arith, is, length-take mostKept (octetsOf (destuffed 0 q)), length-low (length (destuffed 0 q) / 8) (destuffed 0 q))))
-      (ap (λ (n : ℕ). found (take n kept) ∷ []) (let d : min (r .whole) (length kept) ≡ r .whole = omega (arith, holds-most h, h .room) in d)
-      ∙ ap (λ (s : List ℕ). found s ∷ []) (holds-octets h (destuffed 0 q) _ (destuffed-append 0 q (false ∷ ones 6)) w (flag-short (runAfter 0 q))))
+      rw (ne-eqb (r .whole) 0 (λ e. omega
+      (arith, is, length-take mostKept (octetsOf (destuffed 0 q)), length-low (length (destuffed 0 q) / 8) (destuffed 0 q))))
+      (ap (λ (n : ℕ). found (take n kept) ∷ [])
+      (let d : min (r .whole) (length kept) ≡ r .whole = omega (arith, holds-most h, h .room) in d)
+      ∙ ap (λ (s : List ℕ). found s ∷ [])
+      (holds-octets h (destuffed 0 q) _ (destuffed-append 0 q (false ∷ ones 6)) w (flag-short (runAfter 0 q))))
     where
       is : r .whole ≡ length (take mostKept (octetsOf (destuffed 0 q)))
       is = holds-whole h (destuffed 0 q) _ (destuffed-append 0 q (false ∷ ones 6)) w (flag-short (runAfter 0 q))
 
   -- of all that is left of the stretch
   tells-left : 0 < length (destuffed 0 q)
-      → told (pick (not (eqb (length (destuffed 0 q) % 8) 0)) (Refused stretchOctets) (pick (eqb (r .whole) 0) Nothing (Frame (min (r .whole) (length kept))))) kept
+      → told (pick (not (eqb (length (destuffed 0 q) % 8) 0)) (Refused stretchOctets)
+      (pick (eqb (r .whole) 0) Nothing (Frame (min (r .whole) (length kept))))) kept
       ≡ clipped (left (destuffed 0 q)) ∷ []
   unfolding pick left
   tells-left s = go (eqb (length (destuffed 0 q) % 8) 0) refl
@@ -203,12 +219,14 @@ tells true (b ∷ q) r kept h = go (abandoned (b ∷ q))
     go : (t : Bool)
         → told
         (pick t (Refused stretchAbandoned)
-        (pick (not (eqb (length (destuffed 0 (b ∷ q)) % 8) 0)) (Refused stretchOctets) (pick (eqb (r .whole) 0) Nothing (Frame (min (r .whole) (length kept)))))) kept
+        (pick (not (eqb (length (destuffed 0 (b ∷ q)) % 8) 0)) (Refused stretchOctets)
+        (pick (eqb (r .whole) 0) Nothing (Frame (min (r .whole) (length kept)))))) kept
         ≡ clipped (pick t (unread stretchAbandoned) (left (destuffed 0 (b ∷ q)))) ∷ []
     go true = refl
     go false = tells-left (b ∷ q) r kept h (destuffed-some b q)
 
-led-flag : (z : Bool) (q : List Bool) (r : Row) (kept : List ℕ) (l : 6 < 7) (h : Holds r kept (destuffed 0 (q ++ false ∷ ones 6))) → Step z (led q 6 l r kept h) false
+led-flag : (z : Bool) (q : List Bool) (r : Row) (kept : List ℕ) (l : 6 < 7) (h : Holds r kept (destuffed 0 (q ++ false ∷ ones 6))) → Step z
+    (led q 6 l r kept h) false
 led-flag z q r kept l h = stops refl (tells z q r kept h) (λ s. flag-piece q s)
 
 -- n, or fewer
@@ -287,5 +305,6 @@ fold (b ∷ s) z x = go (step z x b) (fold s)
         ∙ ap (shown z) (sym (f s)))
 
 -- THE law: a new reader in fixed memory tells the stretches of all bits, however many
-pub fresh-tells : (kept : List ℕ) (s : List Bool) → length kept ≡ mostKept → toldOf (standing fresh kept) s ≡ map clipped (flatMap stretchOf (stretches s))
+pub fresh-tells : (kept : List ℕ) (s : List Bool) → length kept ≡ mostKept → toldOf (standing fresh kept) s ≡ map clipped
+    (flatMap stretchOf (stretches s))
 fresh-tells kept s l = fold s false (bare 0 (omega arith) 0 (row 0 0 0) kept (holds-none kept l))

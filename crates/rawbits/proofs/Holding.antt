@@ -1,15 +1,14 @@
 -- Bits added one after another are kept as their octets.
 use Prim.Native.Nat.{ℕ, zero, suc, _+_, _*_, _/_, _%_, _^_, _≤_, _<_, min}
 use mathlib.Core.Path.{_≡_, refl, sym, ap, ap₂, _∙_, subst}
-use mathlib.Core.Bool.{Bool, true, false, cond}
+use mathlib.Core.Bool.{Bool, true, false}
 use mathlib.Core.List.{List, [], _∷_, _++_, append-assoc, append-nil, foldl, foldl-append}
-use mathlib.Core.Logic.{_⊎_, inl, inr}
 use native.Mathlib.Omega.{arith}
 use native.Mathlib.Numerals.{add-one}
 use lib.ListN.{length, take, drop, set, length-append, length-take, length-drop, length-set}
-use lib.Seq.{take-append-le, drop-append-le, take-all, take-at, take-suc-set, set-out, length-take-le}
-use lib.Dec.{ltb, eqb}
-use borrow.Author.Tests.{lt-ltb, le-ltb, ltb-true, ltb-false, eq-eqb, ne-eqb}
+use lib.Seq.{take-append-le, drop-append-le, take-all, take-at, take-suc-set, set-out}
+use lib.Dec.{ltb}
+use borrow.Author.Tests.{lt-ltb, le-ltb, ltb-true, ltb-false}
 use Rattle.octets.specs.Pick.{pick}
 use Rattle.bits.specs.Rows.{digit, valueOf}
 use Rattle.bits.proofs.Numbers.{digit-lt, value-lt}
@@ -29,7 +28,8 @@ low-append zero m [] s h = ap (λ (k : ℕ). lowOctets k s) (let z : 0 + m ≡ m
 low-append zero m (b ∷ e) s h = absurd (omega arith)
 low-append (suc n) m e s h =
     ap (λ (k : ℕ). lowOctets k (e ++ s)) (let z : suc n + m ≡ suc (n + m) = omega arith in z)
-    ∙ ap₂ (λ (x : List Bool) (y : List Bool). valueOf x ∷ lowOctets (n + m) y) (take-append-le 8 e s (omega arith)) (drop-append-le 8 e s (omega arith))
+    ∙ ap₂ (λ (x : List Bool) (y : List Bool). valueOf x ∷ lowOctets (n + m) y) (take-append-le 8 e s (omega arith))
+    (drop-append-le 8 e s (omega arith))
     ∙ ap (λ (y : List ℕ). valueOf (take 8 e) ∷ y) (low-append n m (drop 8 e) s (omega (arith, length-drop 8 e)))
 
 -- eight bits more
@@ -188,7 +188,8 @@ module _ {r : Row} {kept : List ℕ} {u : List Bool} (h : Holds r kept u) where
             parts = longer ∙ sym (append-nil _);
             even = simp length-append (omega (arith, h .even));
             few = omega arith;
-            octet = subst (λ (k : ℕ). valueOf (h .p ++ b ∷ []) < 2 ^ k) (let z : length (h .p ++ b ∷ []) ≡ 8 = simp length-append (omega arith) in z) (value-lt (h .p ++ b ∷ []));
+            octet = subst (λ (k : ℕ). valueOf (h .p ++ b ∷ []) < 2 ^ k)
+                (let z : length (h .p ++ b ∷ []) ≡ 8 = simp length-append (omega arith) in z) (value-lt (h .p ++ b ∷ []));
             last = value;
             begun = refl;
             whole = f ∙ ap (λ (s : List ℕ). length (take mostKept s)) (sym now-whole);
@@ -202,7 +203,8 @@ module _ {r : Row} {kept : List ℕ} {u : List Bool} (h : Holds r kept u) where
           (parted (r .whole + 1) (set kept (r .whole) (latest r b)) (simp length-set (h .room))
           (ap (λ (n : ℕ). n + 1) whole ∙ sym (length-append (octetsOf (h .e)) _) ∙ ap length (sym fits))
           (ap (λ (n : ℕ). take n (set kept (r .whole) (latest r b))) (add-one (r .whole)) ∙ take-suc-set kept (r .whole) (latest r b) s
-          ∙ ap (λ (y : List ℕ). y ++ latest r b ∷ []) (h .octets ∙ take-all mostKept (octetsOf (h .e)) (omega (arith, whole, h .room))) ∙ sym fits))
+          ∙ ap (λ (y : List ℕ). y ++ latest r b ∷ []) (h .octets ∙ take-all mostKept (octetsOf (h .e)) (omega (arith, whole, h .room)))
+          ∙ sym fits))
         where
           whole : r .whole ≡ length (octetsOf (h .e))
           whole = omega (arith, count, h .room, length-low (length (h .e) / 8) (h .e))
@@ -222,7 +224,8 @@ module _ {r : Row} {kept : List ℕ} {u : List Bool} (h : Holds r kept u) where
     pub holds-more : Holds (added (length kept) r b) (stored r b kept) (u ++ b ∷ [])
     holds-more = go (ltb (length (h .p)) 7) refl (ltb (r .whole) (length kept)) refl
       where
-        go : (t : Bool) → ltb (length (h .p)) 7 ≡ t → (w : Bool) → ltb (r .whole) (length kept) ≡ w → Holds (added (length kept) r b) (stored r b kept) (u ++ b ∷ [])
+        go : (t : Bool) → ltb (length (h .p)) 7 ≡ t → (w : Bool) → ltb (r .whole) (length kept) ≡ w → Holds (added (length kept) r b)
+            (stored r b kept) (u ++ b ∷ [])
         go true e w f = few-more (ltb-true _ _ e)
         go false e true f = whole-more (omega (arith, ltb-false (length (h .p)) 7 e, h .few)) (ltb-true _ _ f)
         go false e false f = whole-full (omega (arith, ltb-false (length (h .p)) 7 e, h .few)) (ltb-false _ _ f)

@@ -38,10 +38,13 @@ below-six P a b c d e f (suc (suc (suc (suc (suc (suc k)))))) h = absurd (omega 
 
 -- a 0, up to five 1s, and a 0: no flag begins at the first
 piece-zero : (s : List Bool) (k : ℕ) → k < 6 → pieces 0 (false ∷ (ones k ++ false ∷ s)) ≡ before (false ∷ ones k) (pieces 0 (false ∷ s))
-piece-zero s = below-six (λ (k : ℕ). pieces 0 (false ∷ (ones k ++ false ∷ s)) ≡ before (false ∷ ones k) (pieces 0 (false ∷ s))) refl refl refl refl refl refl
+piece-zero s =
+    below-six (λ (k : ℕ). pieces 0 (false ∷ (ones k ++ false ∷ s)) ≡ before (false ∷ ones k) (pieces 0 (false ∷ s))) refl refl refl refl
+    refl refl
 
 module _ (q s : List Bool) where
-  pub zero-piece : (k : ℕ) → k < 6 → before q (pieces 0 (false ∷ (ones k ++ false ∷ s))) ≡ before (q ++ false ∷ ones k) (pieces 0 (false ∷ s))
+  pub zero-piece : (k : ℕ) → k < 6 → before q (pieces 0 (false ∷ (ones k ++ false ∷ s))) ≡ before (q ++ false ∷ ones k)
+      (pieces 0 (false ∷ s))
   zero-piece k h = ap (before q) (piece-zero s k h) ∙ sym (before-append q (false ∷ ones k) (pieces 0 (false ∷ s)))
 
   pub one-piece : (k : ℕ) → before q (pieces 0 (false ∷ (ones k ++ true ∷ s))) ≡ before q (pieces 0 (false ∷ (ones (suc k) ++ s)))
@@ -56,7 +59,8 @@ module _ (q s : List Bool) where
 -- up to six 1s behind a 0, and nothing more
 pub last-piece : (k : ℕ) → k < 7 → pieces 0 (false ∷ ones k) ≡ (false ∷ ones k) ∷ []
 last-piece zero h = refl
-last-piece (suc k) h = below-six (λ (j : ℕ). pieces 0 (false ∷ ones (suc j)) ≡ (false ∷ ones (suc j)) ∷ []) refl refl refl refl refl refl k (omega arith)
+last-piece (suc k) h =
+    below-six (λ (j : ℕ). pieces 0 (false ∷ ones (suc j)) ≡ (false ∷ ones (suc j)) ∷ []) refl refl refl refl refl refl k (omega arith)
 
 -- there is always a piece
 pieces-some : (k : ℕ) (s : List Bool) → (p : List Bool) × (ps : List (List Bool)) × (pieces k s ≡ p ∷ ps)

@@ -1,15 +1,14 @@
 -- The window's octets, one after another, as the loop takes them.
-use Prim.Native.Nat.{ℕ, zero, suc, _+_, _≤_, _<_}
-use mathlib.Core.Path.{_≡_, refl, sym, ap, ap₂, _∙_}
+use Prim.Native.Nat.{ℕ, suc, _+_, _≤_, _<_}
+use mathlib.Core.Path.{_≡_, sym, ap, _∙_}
 use mathlib.Core.Bool.{Bool, true, false, not}
-use mathlib.Core.List.{List, [], _∷_}
+use mathlib.Core.List.{List, _∷_}
 use native.Mathlib.Omega.{arith}
 use native.Mathlib.Numerals.{add-one}
 use borrow.Author.Tests.{not-true, not-false}
 use lib.ListN.{length, getD, drop, drop-of-length-le}
 use lib.Seq.{drop-cons}
 use Rattle.octets.specs.Pick.{pick}
-use Rattle.stretch.specs.declared.Found.{Found}
 use Rattle.stretch.specs.declared.Found.the-variants.{Nothing}
 use Rattle.rawbits.specs.Reader.{Standing, standing, Passing, octetPassed, Outcome, nothing, scanned}
 
@@ -22,7 +21,8 @@ scan-on : (s : Standing) (x : ℕ) (w : List ℕ) (i : ℕ) → nothing (octetPa
 unfolding scanned pick
 scan-on s x w i e =
     let r = scanned (octetPassed s x .standing) w in
-    simp e (ap (λ (n : ℕ). record { standing = r .standing; used = n; found = r .found }) (let z : i + 1 + r .used ≡ i + suc (r .used) = omega arith in z))
+    simp e (ap (λ (n : ℕ). record { standing = r .standing; used = n; found = r .found })
+    (let z : i + 1 + r .used ≡ i + suc (r .used) = omega arith in z))
 
 scan-stop : (s : Standing) (x : ℕ) (w : List ℕ) (i : ℕ) → nothing (octetPassed s x .found) ≡ false
     → record { standing = octetPassed s x .standing; used = i + 1; found = octetPassed s x .found } ≡ ahead i (scanned s (x ∷ w))
@@ -34,7 +34,12 @@ pub record Scans (a : Standing) (w : List ℕ) (s : Standing) (i : ℕ) : Type 0
   pub same : ahead i (scanned s (drop i w)) ≡ scanned a w
 
 pub scans-first : (a : Standing) (w : List ℕ) → Scans a w a 0
-scans-first a w = record { inside = omega arith; same = ap (λ (n : ℕ). record { standing = scanned a w .standing; used = n; found = scanned a w .found }) (omega arith) }
+scans-first a w =
+    record {
+      inside = omega arith;
+      same = ap (λ (n : ℕ). record { standing = scanned a w .standing; used = n; found = scanned a w .found })
+          (omega arith);
+    }
 
 module _ {a : Standing} {w : List ℕ} {s : Standing} {i : ℕ} (t : Scans a w s i) where
   module _ (h : i < length w) {p : Passing} (e : p ≡ octetPassed s (getD w i 0)) {t₁ : Bool} (n : t₁ ≡ nothing (p .found)) where

@@ -1,8 +1,8 @@
 -- The branches of the code are the cases of a bit's definition.
-use Prim.Native.Nat.{ℕ, suc, _+_, _-_, _*_, _/_, _%_, _≤_, _<_, min}
-use mathlib.Core.Path.{_≡_, refl, sym, ap, ap₂, _∙_}
+use Prim.Native.Nat.{ℕ, _+_, _-_, _*_, _/_, _%_, _≤_, _<_, min}
+use mathlib.Core.Path.{_≡_, sym, _∙_}
 use mathlib.Core.Bool.{Bool, true, false, not, _&&_}
-use mathlib.Core.List.{List, [], _∷_}
+use mathlib.Core.List.{List}
 use native.Mathlib.Omega.{arith}
 use lib.ListN.{length, set}
 use lib.Seq.{set-out}
@@ -14,7 +14,8 @@ use Rattle.bits.proofs.Numbers.{digit-lt}
 use Rattle.answer.specs.Refusals.{stretchOctets, stretchAbandoned}
 use Rattle.stretch.specs.declared.Found.{Found}
 use Rattle.stretch.specs.declared.Found.the-variants.{Nothing, Frame, Refused}
-use Rattle.rawbits.specs.Reader.{Standing, standing, row, counted, added, stored, begun, closed, five, withOne, afterOne, afterZero, after, Passing, passed}
+use Rattle.rawbits.specs.Reader.{Standing, standing, row, counted, added, stored, begun, closed, five, afterOne, afterZero}
+use Rattle.rawbits.specs.Reader.{after, passed}
 use Rattle.rawbits.specs.Eight.{trail, low, filled, eightPassed}
 use Rattle.rawbits.specs.declared.Row.{Row}
 use Rattle.rawbits.specs.declared.Reader.{Reader}
@@ -30,7 +31,8 @@ module _ (r : Row) (b : Bool) (kept : List ℕ) {t : ℕ} (e : t ≡ 128 * digit
   unfolding added stored pick
   add-more h = (simp (lt-ltb _ _ h, e), simp (lt-ltb _ _ h))
 
-  pub add-whole : 7 ≤ r .begun → {n : ℕ} {kept′ : List ℕ} → n ≡ counted (length kept) (r .whole) → kept′ ≡ set kept (r .whole) (r .last / 2 + t)
+  pub add-whole : 7 ≤ r .begun → {n : ℕ} {kept′ : List ℕ} → n ≡ counted (length kept) (r .whole) → kept′ ≡ set kept (r .whole)
+      (r .last / 2 + t)
       → (row (r .last / 2 + t) 0 n ≡ added (length kept) r b) × (kept′ ≡ stored r b kept)
   unfolding added stored pick
   add-whole h n k = (simp (le-ltb _ _ h, n, e), k ∙ simp (le-ltb _ _ h, e))
@@ -65,13 +67,15 @@ module _ (most : ℕ) (a : Reader) where
       unfolding closed pick
       closes-empty e w = simp (s, t, e, eq-eqb _ _ w)
 
-      pub closes-frame : (n : ℕ) → not (eqb (a .mark) 0) ≡ false → (a .row .whole ≡ 0 → ⊥) → n ≡ min (a .row .whole) most → Frame n ≡ closed most a
+      pub closes-frame : (n : ℕ) → not (eqb (a .mark) 0) ≡ false → (a .row .whole ≡ 0 → ⊥) → n ≡ min (a .row .whole) most
+          → Frame n ≡ closed most a
       unfolding closed pick
       closes-frame n e w m = simp (s, t, e, ne-eqb _ _ w, m)
 
 -- ---- a 1, and a 0 that ends no flag
 
-module _ (a : Reader) (kept kept′ : List ℕ) (r : Row) (g : r ≡ added (length kept) (a .row) true) (k : kept′ ≡ stored (a .row) true kept) where
+module _ (a : Reader) (kept kept′ : List ℕ) (r : Row) (g : r ≡ added (length kept) (a .row) true)
+    (k : kept′ ≡ stored (a .row) true kept) where
   abbrev one : ℕ → Bool → Standing
   one ones lost = standing (record { seen = a .seen; ones = ones; abandoned = lost; mark = a .mark; row = r }) kept′
 
@@ -95,7 +99,8 @@ module _ (a : Reader) (kept : List ℕ) where
   unfolding after afterZero pick
   zero-stuffed e = simp e
 
-  pub zero-more : eqb (a .ones) 5 ≡ false → (r : Row) (kept′ : List ℕ) → r ≡ added (length kept) (a .row) false → kept′ ≡ stored (a .row) false kept
+  pub zero-more : eqb (a .ones) 5 ≡ false → (r : Row) (kept′ : List ℕ) → r ≡ added (length kept) (a .row) false → kept′ ≡ stored
+      (a .row) false kept
       → zero r kept′ ≡ after (standing a kept) false
   unfolding after afterZero pick
   zero-more e r kept′ g k = simp (e, g, k)
@@ -108,7 +113,8 @@ module _ (a : Standing) (b : Bool) (f : Found) where
     unfolding passed pick
     one-passes h = simp (h, e)
 
-    pub zero-passes : b ≡ false → (a .reader .ones ≡ 6 → ⊥) → record { standing = s; found = f } ≡ passed (record { standing = a; found = f }) b
+    pub zero-passes : b ≡ false → (a .reader .ones ≡ 6 → ⊥) → record { standing = s; found = f } ≡ passed
+        (record { standing = a; found = f }) b
     unfolding passed pick
     zero-passes h n = simp (h, ne-eqb _ _ n, e)
 
@@ -122,7 +128,14 @@ module _ (a : Standing) (b : Bool) (f : Found) where
 pub eight-is : (a : Reader) (kept : List ℕ) (entry : ℕ) {n : ℕ} {kept′ : List ℕ} → n ≡ counted (length kept) (a .row .whole)
     → kept′ ≡ set kept (a .row .whole) (filled (a .row) entry)
     → standing
-    (record { seen = a .seen; ones = trail entry; abandoned = a .abandoned; mark = (a .row .begun + 15 - trail entry) % 8; row = row (low entry) (a .row .begun) n })
+    (record {
+      seen = a .seen;
+      ones = trail entry;
+      abandoned = a .abandoned;
+      mark = (a .row .begun + 15 - trail entry) % 8;
+      row = row
+          (low entry) (a .row .begun) n;
+    })
     kept′
     ≡ eightPassed (standing a kept) entry
 unfolding eightPassed

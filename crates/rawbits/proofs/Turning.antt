@@ -1,8 +1,8 @@
 -- An octet's bits, the top one first, as the loop takes them.
 use Prim.Native.Nat.{ℕ, zero, suc, _+_, _*_, _/_, _%_, _^_, _≤_, _<_}
-use mathlib.Core.Path.{_≡_, refl, sym, ap, ap₂, _∙_}
+use mathlib.Core.Path.{_≡_, refl, sym, ap, _∙_}
 use mathlib.Core.Bool.{Bool, true, false}
-use mathlib.Core.List.{List, [], _∷_, foldl}
+use mathlib.Core.List.{List, _∷_, foldl}
 use native.Mathlib.Omega.{arith}
 use native.Mathlib.Nat.{pow-suc}
 use native.Mathlib.Numerals.{add-one}
@@ -22,7 +22,8 @@ shifted x i = x * 2 ^ i % 256
 shift-more : (x i : ℕ) → shifted x i % 128 * 2 ≡ shifted x (i + 1)
 shift-more x i =
     let e : x * 2 ^ i % 256 % 128 * 2 ≡ x * 2 ^ i * 2 % 256 = omega arith in
-    e ∙ ap (λ (n : ℕ). n % 256) (let d : x * 2 ^ i * 2 ≡ x * (2 ^ i * 2) = omega arith in d ∙ ap (λ (n : ℕ). x * n) (sym (ap (λ (k : ℕ). 2 ^ k) (add-one i) ∙ pow-suc 2 i)))
+    e ∙ ap (λ (n : ℕ). n % 256) (let d : x * 2 ^ i * 2 ≡ x * (2 ^ i * 2) = omega arith in d ∙ ap (λ (n : ℕ). x * n)
+    (sym (ap (λ (k : ℕ). 2 ^ k) (add-one i) ∙ pow-suc 2 i)))
 
 top-odd : (r q : ℕ) → (128 ≤ r → q % 2 ≡ 1) → (r < 128 → q % 2 ≡ 0) → leb 128 r ≡ eqb (q % 2) 1
 top-odd r q f g = go (leb 128 r) refl
@@ -60,16 +61,20 @@ turns-first a x h = record { few = omega arith; gone = omega arith; long = refl;
 
 module _ {a : Standing} {x : ℕ} {s : Standing} {f : Found} {rest i : ℕ} (t : Turns a x s f rest i) where
   pub turns-next : x < 256 → i < 8 → {s′ : Standing} {f′ : Found} → length (s′ .kept) ≡ length (s .kept)
-      → record { standing = s′; found = f′ } ≡ passed (record { standing = s; found = f }) (leb 128 rest) → Turns a x s′ f′ (rest % 128 * 2) (i + 1)
+      → record { standing = s′; found = f′ } ≡ passed (record { standing = s; found = f }) (leb 128 rest) → Turns a x s′ f′ (rest % 128 * 2)
+      (i + 1)
   turns-next h l n e =
       record {
         few = omega arith;
         gone = ap (λ (n : ℕ). n % 128 * 2) (t .gone) ∙ shift-more x i;
         long = n ∙ t .long;
         same =
-            ap (λ (p : Passing). foldl passed p (drop (i + 1) (bitsOf highFirst 8 x))) (e ∙ ap (λ (n : ℕ). passed (record { standing = s; found = f }) (leb 128 n)) (t .gone))
+            ap (λ (p : Passing). foldl passed p (drop (i + 1) (bitsOf highFirst 8 x)))
+            (e ∙ ap (λ (n : ℕ). passed (record { standing = s; found = f }) (leb 128 n)) (t .gone))
             ∙ sym (ap (foldl passed (record { standing = s; found = f })) (top-bit x i h l)) ∙ t .same;
       }
 
   pub turns-end : 8 ≤ i → record { standing = s; found = f } ≡ octetPassed a x
-  turns-end l = ap (λ (k : ℕ). foldl passed (record { standing = s; found = f }) (drop k (bitsOf highFirst 8 x))) (let e : 8 ≡ i = omega (arith, t .few) in e) ∙ t .same
+  turns-end l =
+      ap (λ (k : ℕ). foldl passed (record { standing = s; found = f }) (drop k (bitsOf highFirst 8 x)))
+      (let e : 8 ≡ i = omega (arith, t .few) in e) ∙ t .same

@@ -17,7 +17,8 @@ new-fixed = fixed knew.ps knew.r rnew.Post _ _ (λ κs a x s p. p)
 
 outcome-apart : (x y : Scanned × List ℕ) → outcome (x .0) (x .1) ≡ outcome (y .0) (y .1) → x ≡ y
 outcome-apart x y e =
-    ap {B = Scanned × List ℕ} (λ (o : Outcome). (record { reader = o .standing .reader; used = o .used; found = o .found }, o .standing .kept)) e
+    ap {B = Scanned × List ℕ} (λ (o : Outcome).
+    (record { reader = o .standing .reader; used = o .used; found = o .found }, o .standing .kept)) e
 
 -- the result, and the octets lent afterwards
 pub scan-fixed : Fixes kscan.ps kscan.r {A = Scanned × List ℕ} rscan.Post (λ κs x s. (x, now (s .1 .1 .0)))

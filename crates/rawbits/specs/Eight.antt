@@ -11,9 +11,9 @@ use Rattle.bits.specs.Rows.Order.{highFirst, lowFirst}
 use Rattle.rawbits.specs.Recording.{begins}
 use Rattle.rawbits.specs.Reader.{Standing, standing, row, counted}
 use Rattle.rawbits.specs.declared.Row.{Row}
-use Rattle.rawbits.specs.declared.Reader.{Reader}
 
--- An octet's entry: how many 1s its bits begin with, or 8 if five stand in a row among them; how many they end with; and the number that they
+-- An octet's entry: how many 1s its bits begin with, or 8 if five stand in a row among them; how many they end with; and the number that
+-- they
 -- are with the earliest as the lowest.
 abbrev pub lead : ℕ → ℕ
 lead entry = entry / 4096
@@ -53,7 +53,8 @@ calm k (false ∷ s) = calm 0 s
 unfoldable pub saysRight : List Bool → ℕ → Bool
 saysRight s entry =
     eqb (low entry) (numberOf lowFirst s)
-    && (leb 5 (lead entry) || calm (4 - lead entry) s && leb (trail entry) 7 && begins (false ∷ ones (trail entry)) (drop (7 - trail entry) s))
+    && (leb 5 (lead entry) || calm (4 - lead entry) s && leb (trail entry) 7 && begins (false ∷ ones (trail entry))
+    (drop (7 - trail entry) s))
 
 -- The table has an entry of each octet, and each is right.
 pub record Eights (table : List ℕ) : Type 0 where

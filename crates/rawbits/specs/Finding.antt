@@ -9,7 +9,6 @@ use Rattle.bits.specs.Rows.{bitsOfAll}
 use Rattle.bits.specs.Rows.Order.{highFirst}
 use Rattle.stretch.specs.Stretch.{Stretch, mostKept, clipped, told, Fits}
 use Rattle.stretch.specs.declared.Found.the-variants.{Nothing}
-use Rattle.rawbits.specs.declared.Reader.{Reader}
 use Rattle.rawbits.specs.Recording.{stretchesIn}
 use Rattle.rawbits.specs.Reader.{Standing, standing, begun, fresh, ends, closed, after, Outcome, scanned}
 
@@ -47,14 +46,16 @@ ScansFind = (a : Standing) (w : List ℕ) → Finds a w (scanned a w)
 abbrev pub FindsStream : Type 0
 FindsStream = (kept s : List ℕ) → length kept ≡ mostKept → toFind (standing fresh kept) s ≡ map clipped (stretchesIn s)
 
--- Scans one after another by a reader that was new, each of any window: the octets that they used, what they told, and how the reader stands
+-- Scans one after another by a reader that was new, each of any window: the octets that they used, what they told, and how the reader
+-- stands
 -- then.
 pub data Scans : List ℕ → List Stretch → Standing → Type 0 where
   none : {kept : List ℕ} → length kept ≡ mostKept → Scans [] [] (standing fresh kept)
   more : {s : List ℕ} {found : List Stretch} {a : Standing} → Scans s found a → (w : List ℕ)
       → Scans (s ++ take (scanned a w .used) w) (found ++ toldBy (scanned a w)) (scanned a w .standing)
 
--- However the octets come in pieces, what was told so far are the stretches of all octets used so far: each is told as soon as the octet is in
+-- However the octets come in pieces, what was told so far are the stretches of all octets used so far: each is told as soon as the octet is
+-- in
 -- in which its closing flag ends.
 abbrev pub PiecesGiveTheWhole : Type 0
 PiecesGiveTheWhole = (s : List ℕ) (found : List Stretch) (a : Standing) → Scans s found a → found ≡ map clipped (stretchesIn s)

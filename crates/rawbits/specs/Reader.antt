@@ -58,7 +58,8 @@ fresh = begun false
 abbrev pub ends : Reader → Bool → Bool
 ends a b = not b && eqb (a .ones) 6
 
--- What the stretch before it was: nothing without a flag before that; 17, then 16, nothing if it has no bits, else a frame, of which so many
+-- What the stretch before it was: nothing without a flag before that; 17, then 16, nothing if it has no bits, else a frame, of which so
+-- many
 -- octets are kept at most.
 unfoldable pub closed : ℕ → Reader → Found
 closed most a =

@@ -1,7 +1,7 @@
 -- Document 02, M-105: the frames in a recording of raw bits, over the whole of it.
 use Prim.Native.Nat.{ℕ, zero, suc, _/_, _%_}
 use mathlib.Core.Bool.{Bool, true, false, not, _&&_, _||_, cond}
-use mathlib.Core.List.{List, [], _∷_, _++_, tail, dropLast, flatMap}
+use mathlib.Core.List.{List, [], _∷_, tail, dropLast, flatMap}
 use lib.ListN.{length, take, drop}
 use lib.Dec.{eqb}
 use Rattle.octets.specs.Pick.{pick}
@@ -34,7 +34,8 @@ abbrev pub onto : Bool → List (List Bool) → List (List Bool)
 onto b [] = []
 onto b (p ∷ ps) = (b ∷ p) ∷ ps
 
--- What stands before the first flag, between two neighbours, and behind the last. Flags are found from the earliest bit on, and of one that is
+-- What stands before the first flag, between two neighbours, and behind the last. Flags are found from the earliest bit on, and of one that
+-- is
 -- found k bits are still to pass before the next is sought, so that no two have a bit in common.
 abbrev pub pieces : ℕ → List Bool → List (List Bool)
 pieces k [] = [] ∷ []

@@ -5,13 +5,15 @@ ghost use lib.ListN.{length, set};
 ghost use Prim.Native.Nat.{_*_, _<_};
 ghost use Rattle.bits.specs.Rows.{digit};
 ghost use Rattle.rawbits.specs.Eight.{eightPassed, Eights};
-ghost use Rattle.rawbits.specs.Reader.{standing, counted, added, stored, begun, fresh, closed, after, passing, passed, octetPassed, nothing, outcome, scanned};
+ghost use Rattle.rawbits.specs.Reader.{standing, counted, added, stored, begun, fresh, closed, after, passing, passed, octetPassed};
+ghost use Rattle.rawbits.specs.Reader.{nothing, outcome, scanned};
 use stretch::Found;
 use stretch::KEPT;
 
 mod table;
 
-// The bits of a frame so far: the last eight, the latest on top; how many of them belong to an octet begun; and how many octets are whole, as
+// The bits of a frame so far: the last eight, the latest on top; how many of them belong to an octet begun; and how many octets are whole,
+// as
 // far as there is room for them.
 pub struct Row {
     pub last: u8,
@@ -19,7 +21,8 @@ pub struct Row {
     pub whole: usize,
 }
 
-// A reader of raw bits: whether a flag has passed; how many 1s came last, 7 where no flag can end behind them; whether the stretch is abandoned;
+// A reader of raw bits: whether a flag has passed; how many 1s came last, 7 where no flag can end behind them; whether the stretch is
+// abandoned;
 // how many bits of an octet had begun before the last 0; and the frame's bits since the last flag.
 pub struct Reader {
     pub seen: bool,
@@ -187,7 +190,8 @@ impl Reader {
 
     // The next bit, and what the last flag has told.
     fn bit(self, bit: bool, found: Found, kept: &mut [u8]) -> Passed
-        ensures { λ r. ⌜ passing r (now (kept .exit)) ≡ passed (record { standing = standing self (now (kept .entry)); found = found }) bit ⌝ }
+        ensures { λ r. ⌜ passing r (now (kept .exit)) ≡ passed (record { standing = standing self (now (kept .entry)); found = found }) bit
+            ⌝ }
     {
         if bit {
             let reader = self.one(kept);
@@ -260,7 +264,8 @@ impl Reader {
         self.bits(octet, kept)
     }
 
-    // Goes over the window's octets up to the one in which something is told, or up to its end. A frame is the first of the octets kept, which
+    // Goes over the window's octets up to the one in which something is told, or up to its end. A frame is the first of the octets kept,
+    // which
     // are to be lent again as they were left.
     pub fn scan(self, window: &[u8], kept: &mut [u8; KEPT]) -> Scanned
         ensures { λ r. ⌜ outcome r (now (kept .exit)) ≡ scanned (standing self (now (kept .entry))) (now (window .entry)) ⌝ }

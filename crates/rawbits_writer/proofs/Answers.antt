@@ -45,5 +45,6 @@ module _ (d ns out : List ℕ) {a b : Bool} (e : a ≡ anyOutside ns) (f : b ≡
         pub asks-room : FramesRoom d ns out
         asks-room = record { adds = asks .adds; room = room }
 
-        pub writes : {n : ℕ} {out′ : List ℕ} → (n ≡ length (streamOf (cut d ns))) × (out′ ≡ written (streamOf (cut d ns)) out) → WroteFrames d ns out (Length n) out′
+        pub writes : {n : ℕ} {out′ : List ℕ} → (n ≡ length (streamOf (cut d ns))) × (out′ ≡ written (streamOf (cut d ns)) out)
+            → WroteFrames d ns out (Length n) out′
         writes x = wrote says h room (x .0) (x .1)

@@ -129,7 +129,8 @@ stream-holds fs r =
 
 clipped-none : (fs : List (List ℕ)) → AllSound fs → map clipped (map found fs) ≡ map found fs
 clipped-none [] r = refl
-clipped-none (f ∷ fs) r = ap₂ (λ (x : List ℕ) (y : List Stretch). found x ∷ y) (take-all mostKept f (omega (arith, r .0 .greatest))) (clipped-none fs (r .1))
+clipped-none (f ∷ fs) r =
+    ap₂ (λ (x : List ℕ) (y : List Stretch). found x ∷ y) (take-all mostKept f (omega (arith, r .0 .greatest))) (clipped-none fs (r .1))
 
 all-sound : (d ns : List ℕ) → ((i : ℕ) → at d i < 256) → total ns ≡ length d → anyOutside ns ≡ false → AllSound (cut d ns)
 all-sound d [] small e h = tt
@@ -150,7 +151,8 @@ unfolding writing
 calls-found-again d ns out n out′ small x =
     let a = not-picked (framesWrong d ns) _ _ _ (sym (x .answers)) refuse-or-accept in
     let b = not-picked (ltb (length out) (length (streamOf (cut d ns)))) _ _ _ (a .1) refuse-or-accept in
-    let g = gives (framesWrong d ns) (streamOf (cut d ns)) out (Length n) out′ (a .0) (ltb-false (length out) (length (streamOf (cut d ns))) (b .0)) x in
+    let g = gives (framesWrong d ns) (streamOf (cut d ns)) out (Length n) out′ (a .0)
+    (ltb-false (length out) (length (streamOf (cut d ns))) (b .0)) x in
     let f = good-frames d ns (a .0) in
     let r = all-sound d ns small (f .adds) (f .inside) in
     let s : take n out′ ≡ streamOf (cut d ns) = ap (λ (k : ℕ). take k out′) (sym (same-fields (b .1))) ∙ g .leaves in

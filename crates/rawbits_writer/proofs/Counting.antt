@@ -47,7 +47,8 @@ module _ {f : List ℕ} {count ones i : ℕ} (t : Measures f count ones i) where
 
     pub measures-next : Measures f (count + q .bits) (q .ones) (i + 1)
     measures-next =
-        let n : q .ones ≡ after ones (bitsOf lowFirst 8 (getD f i 0)) = ap (λ (r : Pen). r .ones) is ∙ row-ones (start ones) (bitsOf lowFirst 8 (getD f i 0)) in
+        let n : q .ones ≡ after ones (bitsOf lowFirst 8 (getD f i 0)) = ap (λ (r : Pen). r .ones) is ∙ row-ones (start ones)
+        (bitsOf lowFirst 8 (getD f i 0)) in
         record {
           inside = omega arith;
           even =
@@ -57,7 +58,8 @@ module _ {f : List ℕ} {count ones i : ℕ} (t : Measures f count ones i) where
                 bits,
                 ap (λ (k : ℕ). length (stuffed k (bitsOfAll lowFirst (drop (i + 1) f)))) n,
                 ap length (stuffed-here ones f i h),
-                length-append (stuffed ones (bitsOf lowFirst 8 (getD f i 0))) (stuffed (after ones (bitsOf lowFirst 8 (getD f i 0))) (bitsOfAll lowFirst (drop (i + 1) f))),
+                length-append (stuffed ones (bitsOf lowFirst 8 (getD f i 0)))
+                    (stuffed (after ones (bitsOf lowFirst 8 (getD f i 0))) (bitsOfAll lowFirst (drop (i + 1) f))),
               );
           few = omega (arith, t .few, measures-few);
         }
@@ -109,18 +111,21 @@ module _ {d ns : List ℕ} {room left part at i : ℕ} (t : Counting d ns room l
             counting-short f,
           )
 
-      here : length (frameBits (cut (drop at d) (drop i ns))) ≡ m + 8 + length (frameBits (cut (drop (at + getD ns i 0) d) (drop (i + 1) ns)))
+      here : length (frameBits (cut (drop at d) (drop i ns))) ≡ m + 8 + length
+          (frameBits (cut (drop (at + getD ns i 0) d) (drop (i + 1) ns)))
       here =
           let f = take (getD ns i 0) (drop at d) in
           let r = frameBits (cut (drop (at + getD ns i 0) d) (drop (i + 1) ns)) in
-          let g : length (bodyBits f ++ flag ++ r) ≡ length (bodyBits f) + 8 + length r = length-append (bodyBits f ++ flag) r ∙ omega (arith, length-append (bodyBits f) flag) in
+          let g : length (bodyBits f ++ flag ++ r) ≡ length (bodyBits f) + 8 + length r = length-append (bodyBits f ++ flag) r ∙ omega
+          (arith, length-append (bodyBits f) flag) in
           let k : length (bodyBits f) ≡ m = ap (λ (s : List ℕ). length (bodyBits s)) (sym part-is) ∙ sym e in
           ap (λ (l : List (List ℕ)). length (frameBits l)) (cut-here d ns at i h) ∙ g ∙ ap (λ (n : ℕ). n + 8 + length r) k
 
       pub counting-over : left < (part + m + 8) / 8 → true ≡ ltb room (length (streamOf (cut d ns)))
       counting-over l = sym (lt-ltb room (length (streamOf (cut d ns))) (omega (arith, length-stream (cut d ns), t .even, here)))
 
-      pub counting-next : (part + m + 8) / 8 ≤ left → Counting d ns room (left - (part + m + 8) / 8) ((part + m + 8) % 8) (at + getD ns i 0) (i + 1)
+      pub counting-next : (part + m + 8) / 8 ≤ left → Counting d ns room (left - (part + m + 8) / 8) ((part + m + 8) % 8) (at + getD ns i 0)
+          (i + 1)
       counting-next l =
           record {
             reached = reached-next (t .reached) h;
@@ -137,8 +142,11 @@ module _ {d ns : List ℕ} {room left part at i : ℕ} (t : Counting d ns room l
 
       go : (b : Bool) → eqb left 0 ≡ b → (c : Bool) → eqb part 0 ≡ c → (b && not c) ≡ ltb room (length (streamOf (cut d ns)))
       go true e false f =
-          sym (lt-ltb room (length (streamOf (cut d ns))) (omega (arith, length-stream (cut d ns), t .even, none, eqb-true left 0 e, eqb-false part 0 f)))
+          sym (lt-ltb room (length (streamOf (cut d ns)))
+          (omega (arith, length-stream (cut d ns), t .even, none, eqb-true left 0 e, eqb-false part 0 f)))
       go true e true f =
-          sym (le-ltb room (length (streamOf (cut d ns))) (omega (arith, length-stream (cut d ns), t .even, none, eqb-true left 0 e, eqb-true part 0 f)))
+          sym (le-ltb room (length (streamOf (cut d ns)))
+          (omega (arith, length-stream (cut d ns), t .even, none, eqb-true left 0 e, eqb-true part 0 f)))
       go false e c f =
-          sym (le-ltb room (length (streamOf (cut d ns))) (omega (arith, length-stream (cut d ns), t .even, t .few, t .inside, none, eqb-false left 0 e)))
+          sym (le-ltb room (length (streamOf (cut d ns)))
+          (omega (arith, length-stream (cut d ns), t .even, t .few, t .inside, none, eqb-false left 0 e)))

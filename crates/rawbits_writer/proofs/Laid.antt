@@ -55,7 +55,8 @@ module _ {d ns : List ℕ} {p₀ : Pen} {o₀ : List ℕ} {p : Pen} {o : List �
         let rest = frameBits (cut (drop (at + getD ns i 0) d) (drop (i + 1) ns)) in
         ap (λ (l : List (List ℕ)). allBits l ++ zeros 7) (cut-here d ns at i h)
         ∙ ap (λ (n : ℕ). flag ++ (((bodyBits (take n (drop at d)) ++ flag) ++ rest) ++ zeros 7)) e
-        ∙ ap (λ (r : List Bool). flag ++ r) (append-assoc (bodyBits frame ++ flag) rest (zeros 7) ∙ append-assoc (bodyBits frame) flag (rest ++ zeros 7))
+        ∙ ap (λ (r : List Bool). flag ++ r)
+        (append-assoc (bodyBits frame ++ flag) rest (zeros 7) ∙ append-assoc (bodyBits frame) flag (rest ++ zeros 7))
 
     at-flag : Going p₀ o₀ (left d ns 0 0) p o (flag ++ (bodyBits frame ++ left d ns (at + getD ns i 0) (i + 1)))
     at-flag = subst (Going p₀ o₀ (left d ns 0 0) p o) here (t .going)
@@ -66,19 +67,22 @@ module _ {d ns : List ℕ} {p₀ : Pen} {o₀ : List ℕ} {p : Pen} {o : List �
     module _ {q : Pen} {o₁ : List ℕ} (x : Writes p o flag 0 q o₁) (l : length o₁ ≡ length o) where
       at-body : Going p₀ o₀ (left d ns 0 0) q o₁ (stuffed (q .ones) (bitsOfAll lowFirst frame) ++ left d ns (at + getD ns i 0) (i + 1))
       at-body =
-          subst (λ (k : ℕ). Going p₀ o₀ (left d ns 0 0) q o₁ (stuffed k (bitsOfAll lowFirst frame) ++ left d ns (at + getD ns i 0) (i + 1))) (sym (x .run))
+          subst (λ (k : ℕ). Going p₀ o₀ (left d ns 0 0) q o₁ (stuffed k (bitsOfAll lowFirst frame) ++ left d ns (at + getD ns i 0) (i + 1)))
+          (sym (x .run))
           (going-part flag _ at-flag x l)
 
       pub laying-body : Room p₀ o₀ (left d ns 0 0) → Ready q × Room q o₁ (stuffed (q .ones) (bitsOfAll lowFirst frame))
       laying-body r = (x .ready, going-room _ _ at-body r)
 
-      pub laying-next : {r : Pen} {o₂ : List ℕ} → Writes q o₁ (stuffed (q .ones) (bitsOfAll lowFirst frame)) (r .ones) r o₂ → length o₂ ≡ length o₁
+      pub laying-next : {r : Pen} {o₂ : List ℕ} → Writes q o₁ (stuffed (q .ones) (bitsOfAll lowFirst frame)) (r .ones) r o₂
+          → length o₂ ≡ length o₁
           → Laying d ns p₀ o₀ r o₂ (at + getD ns i 0) (i + 1)
       laying-next y m = record { reached = reached-next (t .reached) h; going = going-part _ _ at-body y m }
 
   module _ (h : length ns ≤ i) where
     at-last : Going p₀ o₀ (left d ns 0 0) p o (flag ++ zeros 7)
-    at-last = subst (Going p₀ o₀ (left d ns 0 0) p o) (ap (λ (l : List (List ℕ)). allBits l ++ zeros 7) (cut-over (drop at d) ns i h)) (t .going)
+    at-last =
+        subst (Going p₀ o₀ (left d ns 0 0) p o) (ap (λ (l : List (List ℕ)). allBits l ++ zeros 7) (cut-over (drop at d) ns i h)) (t .going)
 
     pub last-flag : Room p₀ o₀ (left d ns 0 0) → Ready p × Room p o flag
     last-flag r = (t .going .ready, going-room flag _ at-last r)
@@ -90,7 +94,8 @@ module _ {d ns : List ℕ} {p₀ : Pen} {o₀ : List ℕ} {p : Pen} {o : List �
       pub last-fill : Room p₀ o₀ (left d ns 0 0) → Ready q × Room q o₁ (zeros 7)
       last-fill r = (x .ready, going-room (zeros 7) [] at-fill r)
 
-      pub laying-done : {r : Pen} {o₂ : List ℕ} → Writes q o₁ (zeros 7) (q .ones) r o₂ → length o₂ ≡ length o₁ → Going p₀ o₀ (left d ns 0 0) r o₂ []
+      pub laying-done : {r : Pen} {o₂ : List ℕ} → Writes q o₁ (zeros 7) (q .ones) r o₂ → length o₂ ≡ length o₁ → Going p₀ o₀
+          (left d ns 0 0) r o₂ []
       laying-done y m = going-part (zeros 7) [] at-fill y m
 
 -- ---- the stream is there
@@ -120,7 +125,8 @@ module _ (d ns : List ℕ) {p r : Pen} {o o′ : List ℕ} (e : p ≡ start 0) (
       omega (arith, laid-length, length-stream (cut d ns), length-take (r .at) o′, g .same, f .room) in
       sym (octets-in (take (r .at) o′) (heldBy r) (taken (r .at) o′ small))
       ∙ ap₂ octetsIn n
-      (sym (append-nil (penned r o′)) ∙ g .adds ∙ ap (λ (q : Pen). penned q o ++ left d ns 0 0) e ∙ ap (λ (s : List Bool). s ++ left d ns 0 0) (start-penned o))
+      (sym (append-nil (penned r o′)) ∙ g .adds ∙ ap (λ (q : Pen). penned q o ++ left d ns 0 0) e ∙ ap
+      (λ (s : List Bool). s ++ left d ns 0 0) (start-penned o))
 
   pub laid : (r .at ≡ length (streamOf (cut d ns))) × (o′ ≡ written (streamOf (cut d ns)) o)
   laid = (

@@ -1,5 +1,5 @@
 -- Stuffed bits have no flag in them, nor across the joints with the flags around them.
-use Prim.Native.Nat.{ℕ, zero, suc, _+_, _<_}
+use Prim.Native.Nat.{ℕ, zero, suc, _<_}
 use mathlib.Core.Path.{_≡_, refl, sym, ap, _∙_}
 use mathlib.Core.Bool.{Bool, true, false}
 use mathlib.Core.List.{List, [], _∷_, _++_, append-nil}
@@ -26,7 +26,8 @@ fifth P p q k h = go (eqb k 4) refl
 
 pub destuffed-stuffed : (k : ℕ) (s : List Bool) → k < 5 → destuffed k (stuffed k s) ≡ s
 destuffed-stuffed k [] h = refl
-destuffed-stuffed k (false ∷ s) h = rw (ne-eqb k 5 (λ e. omega arith)) (ap (λ (r : List Bool). false ∷ r) (destuffed-stuffed 0 s (omega arith)))
+destuffed-stuffed k (false ∷ s) h =
+    rw (ne-eqb k 5 (λ e. omega arith)) (ap (λ (r : List Bool). false ∷ r) (destuffed-stuffed 0 s (omega arith)))
 destuffed-stuffed k (true ∷ s) h =
     fifth (λ (j : ℕ). destuffed j (stuffed j (true ∷ s)) ≡ true ∷ s)
     (ap (λ (r : List Bool). true ∷ r) (destuffed-stuffed 0 s (omega arith)))
@@ -48,12 +49,15 @@ pieces-ones s zero = refl
 pieces-ones s (suc k) = ap (onto true) (pieces-ones s k)
 
 -- k 1s behind a 0
-piece-led : (k : ℕ) (s r : List Bool) → k < 5 → pieces 0 (false ∷ (ones k ++ (stuffed k s ++ (flag ++ r)))) ≡ (false ∷ (ones k ++ stuffed k s)) ∷ pieces 0 r
+piece-led : (k : ℕ) (s r : List Bool) → k < 5 → pieces 0 (false ∷ (ones k ++ (stuffed k s ++ (flag ++ r)))) ≡
+    (false ∷ (ones k ++ stuffed k s)) ∷ pieces 0 r
 piece-led k [] r h = zero-piece [] _ k (omega arith) ∙ before-cons (false ∷ ones k) [] (pieces 0 r)
 piece-led k (false ∷ s) r h =
-    zero-piece [] _ k (omega arith) ∙ ap (before (false ∷ ones k)) (piece-led 0 s r (omega arith)) ∙ before-cons (false ∷ ones k) (false ∷ stuffed 0 s) (pieces 0 r)
+    zero-piece [] _ k (omega arith) ∙ ap (before (false ∷ ones k)) (piece-led 0 s r (omega arith)) ∙ before-cons (false ∷ ones k)
+    (false ∷ stuffed 0 s) (pieces 0 r)
 piece-led k (true ∷ s) r h =
-    fifth (λ (j : ℕ). pieces 0 (false ∷ (ones j ++ (stuffed j (true ∷ s) ++ (flag ++ r)))) ≡ (false ∷ (ones j ++ stuffed j (true ∷ s))) ∷ pieces 0 r)
+    fifth (λ (j : ℕ). pieces 0 (false ∷ (ones j ++ (stuffed j (true ∷ s) ++ (flag ++ r)))) ≡
+    (false ∷ (ones j ++ stuffed j (true ∷ s))) ∷ pieces 0 r)
     (zero-piece [] (stuffed 0 s ++ (flag ++ r)) 5 (omega arith) ∙ ap (before (false ∷ ones 5)) (piece-led 0 s r (omega arith)))
     (λ j l.
     ap (λ (q : List Bool). pieces 0 (false ∷ q)) (more-then j s (flag ++ r) l) ∙ piece-led (suc j) s r (omega arith)
@@ -110,12 +114,17 @@ begins-contains w (b ∷ s) h = or-left _ _ h
 pub not-abandoned : (s : List Bool) → abandoned (stuffed 0 s) ≡ false
 unfolding abandoned
 not-abandoned s =
-    rw (begins-contains (ones 6) (stuffed 0 s) (stuffed-run 6 0 s (omega arith) (omega arith)), stuffed-run 7 0 s (omega arith) (omega arith))
+    rw (
+      begins-contains (ones 6) (stuffed 0 s) (stuffed-run 6 0 s (omega arith) (omega arith)),
+      stuffed-run 7 0 s (omega arith)
+          (omega arith),
+    )
 
 -- ---- no flag
 
 contains-zero : (s : List Bool) (k : ℕ) → k < 6 → contains flag (false ∷ (ones k ++ false ∷ s)) ≡ contains flag (false ∷ s)
-contains-zero s = below-six (λ (k : ℕ). contains flag (false ∷ (ones k ++ false ∷ s)) ≡ contains flag (false ∷ s)) refl refl refl refl refl refl
+contains-zero s =
+    below-six (λ (k : ℕ). contains flag (false ∷ (ones k ++ false ∷ s)) ≡ contains flag (false ∷ s)) refl refl refl refl refl refl
 
 contains-few : (k : ℕ) → k < 6 → contains flag (false ∷ ones k) ≡ false
 contains-few = below-six (λ (k : ℕ). contains flag (false ∷ ones k) ≡ false) refl refl refl refl refl refl

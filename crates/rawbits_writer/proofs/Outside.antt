@@ -39,5 +39,6 @@ module _ {ns : List ℕ} {i : ℕ} (t : Inside ns i) where
 
 pub all-short : (ns : List ℕ) → anyOutside ns ≡ false → (i : ℕ) → i < length ns → getD ns i 0 ≤ greatestLength
 all-short [] e i h = absurd (omega arith)
-all-short (n ∷ ns) e zero h = ltb-false greatestLength n (or-right (ltb n leastLength) (ltb greatestLength n) (or-left (outside n) (anyOutside ns) e))
+all-short (n ∷ ns) e zero h =
+    ltb-false greatestLength n (or-right (ltb n leastLength) (ltb greatestLength n) (or-left (outside n) (anyOutside ns) e))
 all-short (n ∷ ns) e (suc i) h = all-short ns (or-right (outside n) (anyOutside ns) e) i (omega arith)

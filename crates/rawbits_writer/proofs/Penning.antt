@@ -29,7 +29,8 @@ bit-alone false = refl
 
 one-more : (k a n : ℕ) (b : Bool) → n ≡ a * 2 + digit b → highBits (k + 1) n ≡ highBits k a ++ b ∷ []
 one-more k a n b e =
-    ap₂ highBits (let f : k + 1 ≡ 1 + k = omega arith in f) e ∙ bits-join k 1 a (digit b) (digit-lt b) ∙ ap (λ (r : List Bool). highBits k a ++ r) (bit-alone b)
+    ap₂ highBits (let f : k + 1 ≡ 1 + k = omega arith in f) e ∙ bits-join k 1 a (digit b) (digit-lt b) ∙ ap
+    (λ (r : List Bool). highBits k a ++ r) (bit-alone b)
 
 two-more : (k a : ℕ) → highBits (k + 2) (a * 4 + 2) ≡ highBits k a ++ true ∷ false ∷ []
 two-more k a =
@@ -64,12 +65,15 @@ row-held p (false ∷ s) =
     ∙ ap (λ (r : List Bool). r ++ stuffed 0 s) (one-more (p .bits) (p .held) (p .held * 2) false (omega arith))
     ∙ append-assoc (highBits (p .bits) (p .held)) (false ∷ []) (stuffed 0 s)
 row-held p (true ∷ s) =
-    go (ltb (p .ones) 4) (row-held (pen (p .at) (p .held * 2 + 1) (p .bits + 1) (p .ones + 1)) s) (row-held (pen (p .at) (p .held * 4 + 2) (p .bits + 2) 0) s)
+    go (ltb (p .ones) 4) (row-held (pen (p .at) (p .held * 2 + 1) (p .bits + 1) (p .ones + 1)) s)
+    (row-held (pen (p .at) (p .held * 4 + 2) (p .bits + 2) 0) s)
   where
     go : (t : Bool)
-        → heldBy (withRow (pen (p .at) (p .held * 2 + 1) (p .bits + 1) (p .ones + 1)) s) ≡ highBits (p .bits + 1) (p .held * 2 + 1) ++ stuffed (p .ones + 1) s
+        → heldBy (withRow (pen (p .at) (p .held * 2 + 1) (p .bits + 1) (p .ones + 1)) s) ≡ highBits (p .bits + 1)
+        (p .held * 2 + 1) ++ stuffed (p .ones + 1) s
         → heldBy (withRow (pen (p .at) (p .held * 4 + 2) (p .bits + 2) 0) s) ≡ highBits (p .bits + 2) (p .held * 4 + 2) ++ stuffed 0 s
-        → heldBy (withRow (pick t (pen (p .at) (p .held * 2 + 1) (p .bits + 1) (p .ones + 1)) (pen (p .at) (p .held * 4 + 2) (p .bits + 2) 0)) s)
+        → heldBy (withRow (pick t (pen (p .at) (p .held * 2 + 1) (p .bits + 1) (p .ones + 1))
+        (pen (p .at) (p .held * 4 + 2) (p .bits + 2) 0)) s)
         ≡ highBits (p .bits) (p .held) ++ true ∷ cond t (stuffed (suc (p .ones)) s) (false ∷ stuffed 0 s)
     go true f g =
         f ∙ ap₂ (λ (r : List Bool) (j : ℕ). r ++ stuffed j s) (one-more (p .bits) (p .held) (p .held * 2 + 1) true refl) (add-one (p .ones))
@@ -92,11 +96,13 @@ unfolding withBit pick
 row-at p [] = refl
 row-at p (false ∷ s) = row-at (pen (p .at) (p .held * 2) (p .bits + 1) 0) s
 row-at p (true ∷ s) =
-    go (ltb (p .ones) 4) (row-at (pen (p .at) (p .held * 2 + 1) (p .bits + 1) (p .ones + 1)) s) (row-at (pen (p .at) (p .held * 4 + 2) (p .bits + 2) 0) s)
+    go (ltb (p .ones) 4) (row-at (pen (p .at) (p .held * 2 + 1) (p .bits + 1) (p .ones + 1)) s)
+    (row-at (pen (p .at) (p .held * 4 + 2) (p .bits + 2) 0) s)
   where
     go : (t : Bool) → withRow (pen (p .at) (p .held * 2 + 1) (p .bits + 1) (p .ones + 1)) s .at ≡ p .at
         → withRow (pen (p .at) (p .held * 4 + 2) (p .bits + 2) 0) s .at ≡ p .at
-        → withRow (pick t (pen (p .at) (p .held * 2 + 1) (p .bits + 1) (p .ones + 1)) (pen (p .at) (p .held * 4 + 2) (p .bits + 2) 0)) s .at ≡ p .at
+        → withRow (pick t (pen (p .at) (p .held * 2 + 1) (p .bits + 1) (p .ones + 1)) (pen (p .at) (p .held * 4 + 2) (p .bits + 2) 0)) s .at
+        ≡ p .at
     go true f g = f
     go false f g = g
 
@@ -111,7 +117,8 @@ row-ones p (true ∷ s) =
   where
     go : (t : Bool) → withRow (pen (p .at) (p .held * 2 + 1) (p .bits + 1) (p .ones + 1)) s .ones ≡ after (suc (p .ones)) s
         → withRow (pen (p .at) (p .held * 4 + 2) (p .bits + 2) 0) s .ones ≡ after 0 s
-        → withRow (pick t (pen (p .at) (p .held * 2 + 1) (p .bits + 1) (p .ones + 1)) (pen (p .at) (p .held * 4 + 2) (p .bits + 2) 0)) s .ones
+        → withRow (pick t (pen (p .at) (p .held * 2 + 1) (p .bits + 1) (p .ones + 1)) (pen (p .at) (p .held * 4 + 2) (p .bits + 2) 0))
+        s .ones
         ≡ cond t (after (suc (p .ones)) s) (after 0 s)
     go true f g = f
     go false f g = g
@@ -135,7 +142,8 @@ unfolding withBit pick
 bit-small p false m h = omega arith
 bit-small p true m h = go (ltb (p .ones) 4)
   where
-    go : (t : Bool) → pick t (pen (p .at) (p .held * 2 + 1) (p .bits + 1) (p .ones + 1)) (pen (p .at) (p .held * 4 + 2) (p .bits + 2) 0) .held < m * 4
+    go : (t : Bool) → pick t (pen (p .at) (p .held * 2 + 1) (p .bits + 1) (p .ones + 1))
+        (pen (p .at) (p .held * 4 + 2) (p .bits + 2) 0) .held < m * 4
     go true = omega arith
     go false = omega arith
 
@@ -144,7 +152,8 @@ unfolding withBit pick
 bit-few p false = omega arith
 bit-few p true = go (ltb (p .ones) 4)
   where
-    go : (t : Bool) → pick t (pen (p .at) (p .held * 2 + 1) (p .bits + 1) (p .ones + 1)) (pen (p .at) (p .held * 4 + 2) (p .bits + 2) 0) .bits ≤ p .bits + 2
+    go : (t : Bool) → pick t (pen (p .at) (p .held * 2 + 1) (p .bits + 1) (p .ones + 1))
+        (pen (p .at) (p .held * 4 + 2) (p .bits + 2) 0) .bits ≤ p .bits + 2
     go true = omega arith
     go false = omega arith
 
@@ -174,8 +183,10 @@ module _ {p₀ : Pen} {x : ℕ} {p : Pen} {rest i : ℕ} (t : Turns p₀ x p res
 pub masked : (k n : ℕ) → k < 8 → highBits k (n % 128) ≡ highBits k n
 masked k n h =
     sym (bits-cut k (n % 128))
-    ∙ ap (highBits k) (ap (λ (j : ℕ). n % 2 ^ j % 2 ^ k) (let e : 7 ≡ 7 - k + k = omega arith in e) ∙ mod-mod-pow n (7 - k) k) ∙ bits-cut k n
+    ∙ ap (highBits k) (ap (λ (j : ℕ). n % 2 ^ j % 2 ^ k) (let e : 7 ≡ 7 - k + k = omega arith in e) ∙ mod-mod-pow n (7 - k) k)
+    ∙ bits-cut k n
 
-pub several-more : (p q : Pen) (m b : ℕ) → b < 2 ^ m → q .bits ≡ m + p .bits → q .held ≡ p .held * 2 ^ m + b → heldBy q ≡ heldBy p ++ highBits m b
+pub several-more : (p q : Pen) (m b : ℕ) → b < 2 ^ m → q .bits ≡ m + p .bits → q .held ≡ p .held * 2 ^ m + b
+    → heldBy q ≡ heldBy p ++ highBits m b
 unfolding heldBy
 several-more p q m b l e f = ap₂ highBits e f ∙ bits-join (p .bits) m (p .held) b l

@@ -18,7 +18,8 @@ stuffed-append k [] t = refl
 stuffed-append k (false ∷ s) t = ap (λ (r : List Bool). false ∷ r) (stuffed-append 0 s t)
 stuffed-append k (true ∷ s) t = ap (λ (r : List Bool). true ∷ r) (go (ltb k 4) (stuffed-append (suc k) s t) (stuffed-append 0 s t))
   where
-    go : (b : Bool) → stuffed (suc k) (s ++ t) ≡ stuffed (suc k) s ++ stuffed (after (suc k) s) t → stuffed 0 (s ++ t) ≡ stuffed 0 s ++ stuffed (after 0 s) t
+    go : (b : Bool) → stuffed (suc k) (s ++ t) ≡ stuffed (suc k) s ++ stuffed (after (suc k) s) t → stuffed 0
+        (s ++ t) ≡ stuffed 0 s ++ stuffed (after 0 s) t
         → cond b (stuffed (suc k) (s ++ t)) (false ∷ stuffed 0 (s ++ t))
         ≡ cond b (stuffed (suc k) s) (false ∷ stuffed 0 s) ++ stuffed (cond b (after (suc k) s) (after 0 s)) t
     go true e f = e

@@ -28,7 +28,8 @@ later a b o o₀ h e =
 
 row-one : (s : List ℕ) (x : ℕ) → rowOf (s ++ x ∷ []) ≡ rowOf s ++ highBits 8 x
 row-one s x =
-    row-append s (x ∷ []) ∙ ap (λ (r : List Bool). rowOf s ++ r) (row-cons x [] ∙ ap (λ (r : List Bool). highBits 8 x ++ r) row-none ∙ append-nil (highBits 8 x))
+    row-append s (x ∷ []) ∙ ap (λ (r : List Bool). rowOf s ++ r)
+    (row-cons x [] ∙ ap (λ (r : List Bool). highBits 8 x ++ r) row-none ∙ append-nil (highBits 8 x))
 
 pub record Drains (p : Pen) (held : ℕ) (o₀ o : List ℕ) (at bits : ℕ) : Type 0 where
   pub adds : rowOf (take at o) ++ highBits bits held ≡ rowOf (take (p .at) o₀) ++ highBits (p .bits) held
@@ -49,8 +50,10 @@ module _ {p : Pen} {held : ℕ} {o₀ o : List ℕ} {at bits : ℕ} (t : Drains 
       let x : ℕ = held / 2 ^ (bits - 8) % 256 in
       record {
         adds =
-            ap (λ (s : List ℕ). rowOf s ++ highBits (bits - 8) held) (ap (λ (n : ℕ). take n (set o at x)) (add-one at) ∙ take-suc-set o at x l)
-            ∙ ap (λ (r : List Bool). r ++ highBits (bits - 8) held) (row-one (take at o) x ∙ ap (λ (r : List Bool). rowOf (take at o) ++ r) (bits-cut 8 (held / 2 ^ (bits - 8))))
+            ap (λ (s : List ℕ). rowOf s ++ highBits (bits - 8) held)
+            (ap (λ (n : ℕ). take n (set o at x)) (add-one at) ∙ take-suc-set o at x l)
+            ∙ ap (λ (r : List Bool). r ++ highBits (bits - 8) held)
+            (row-one (take at o) x ∙ ap (λ (r : List Bool). rowOf (take at o) ++ r) (bits-cut 8 (held / 2 ^ (bits - 8))))
             ∙ append-assoc (rowOf (take at o)) (highBits 8 (held / 2 ^ (bits - 8))) (highBits (bits - 8) held)
             ∙ ap (λ (r : List Bool). rowOf (take at o) ++ r)
             (sym (bits-high (bits - 8) 8 held) ∙ ap (λ (n : ℕ). highBits n held) (let e : bits - 8 + 8 ≡ bits = omega arith in e))
@@ -140,7 +143,8 @@ module _ {p₀ : Pen} {o₀ : List ℕ} {all : List Bool} {p : Pen} {o : List �
   going-room w left t r =
       record { few = omega (arith, t .ready .few); room = omega (arith, t .moves, t .same, r .room, length-append w left) }
 
-  pub going-part : (w left : List Bool) {k : ℕ} {r : Pen} {o′ : List ℕ} → Going p₀ o₀ all p o (w ++ left) → Writes p o w k r o′ → length o′ ≡ length o
+  pub going-part : (w left : List Bool) {k : ℕ} {r : Pen} {o′ : List ℕ} → Going p₀ o₀ all p o (w ++ left) → Writes p o w k r o′
+      → length o′ ≡ length o
       → Going p₀ o₀ all r o′ left
   going-part w left {r = r} t x l =
       record {
@@ -153,7 +157,14 @@ module _ {p₀ : Pen} {o₀ : List ℕ} {all : List Bool} {p : Pen} {o : List �
 
   pub going-end : Going p₀ o₀ all p o [] → Writes p₀ o₀ all (p .ones) p o
   going-end t =
-      record { adds = sym (append-nil (penned p o)) ∙ t .adds; moves = omega (arith, t .moves); beyond = t .beyond; ready = t .ready; run = refl }
+      record {
+        adds = sym (append-nil (penned p o)) ∙ t .adds;
+        moves = omega
+            (arith, t .moves);
+        beyond = t .beyond;
+        ready = t .ready;
+        run = refl;
+      }
 
 -- ---- the octets of a frame, one after another
 
@@ -167,7 +178,8 @@ body-first f r = record { inside = omega arith; going = going-first _ _ _ r }
 module _ {p₀ : Pen} {o₀ f : List ℕ} {p : Pen} {o : List ℕ} {i : ℕ} (t : Body p₀ o₀ f p o i) where
   module _ (h : i < length f) {q : Pen} (e : q ≡ withRow p (bitsOf lowFirst 8 (getD f i 0))) where
     here : Going p₀ o₀ (stuffed (p₀ .ones) (bitsOfAll lowFirst f)) p o
-        (stuffed (p .ones) (bitsOf lowFirst 8 (getD f i 0)) ++ stuffed (after (p .ones) (bitsOf lowFirst 8 (getD f i 0))) (bitsOfAll lowFirst (drop (i + 1) f)))
+        (stuffed (p .ones) (bitsOf lowFirst 8 (getD f i 0)) ++ stuffed (after (p .ones) (bitsOf lowFirst 8 (getD f i 0)))
+        (bitsOfAll lowFirst (drop (i + 1) f)))
     here = subst (Going p₀ o₀ (stuffed (p₀ .ones) (bitsOfAll lowFirst f)) p o) (stuffed-here (p .ones) f i h) (t .going)
 
     held : heldBy q ≡ heldBy p ++ stuffed (p .ones) (bitsOf lowFirst 8 (getD f i 0))
@@ -181,7 +193,8 @@ module _ {p₀ : Pen} {o₀ f : List ℕ} {p : Pen} {o : List ℕ} {i : ℕ} (t 
 
     pub body-room : Room p₀ o₀ (stuffed (p₀ .ones) (bitsOfAll lowFirst f)) → Room q o []
     body-room r =
-        held-room held at bits (omega (arith, bits, t .going .ready .few, stuffed-few (p .ones) (bitsOf lowFirst 8 (getD f i 0)))) (going-room _ _ here r)
+        held-room held at bits (omega (arith, bits, t .going .ready .few, stuffed-few (p .ones) (bitsOf lowFirst 8 (getD f i 0))))
+        (going-room _ _ here r)
 
     pub body-next : {r : Pen} {o′ : List ℕ} → Writes q o [] (q .ones) r o′ → length o′ ≡ length o → Body p₀ o₀ f r o′ (i + 1)
     body-next {r} {o′} x l =
@@ -191,10 +204,12 @@ module _ {p₀ : Pen} {o₀ f : List ℕ} {p : Pen} {o : List ℕ} {i : ℕ} (t 
         record {
           inside = omega arith;
           going =
-              subst (λ (k : ℕ). Going p₀ o₀ (stuffed (p₀ .ones) (bitsOfAll lowFirst f)) r o′ (stuffed k (bitsOfAll lowFirst (drop (i + 1) f)))) (sym (y .run))
+              subst (λ (k : ℕ). Going p₀ o₀ (stuffed (p₀ .ones) (bitsOfAll lowFirst f)) r o′
+              (stuffed k (bitsOfAll lowFirst (drop (i + 1) f)))) (sym (y .run))
               (going-part _ _ here y l);
         }
 
   pub body-end : length f ≤ i → Writes p₀ o₀ (stuffed (p₀ .ones) (bitsOfAll lowFirst f)) (p .ones) p o
   body-end h =
-      going-end (subst (λ (s : List ℕ). Going p₀ o₀ (stuffed (p₀ .ones) (bitsOfAll lowFirst f)) p o (stuffed (p .ones) (bitsOfAll lowFirst s))) (drop-of-length-le f h) (t .going))
+      going-end (subst (λ (s : List ℕ). Going p₀ o₀ (stuffed (p₀ .ones) (bitsOfAll lowFirst f)) p o
+      (stuffed (p .ones) (bitsOfAll lowFirst s))) (drop-of-length-le f h) (t .going))

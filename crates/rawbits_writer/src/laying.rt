@@ -16,7 +16,8 @@ ghost use Rattle.rawbits_writer.specs.Pen.{start, withBit, withRow, body
 // The bits of a flag as a number.
 const FLAG: u32 = 126;
 
-// Where bits are written: the index of the next octet; the bits before it that fill no octet yet, as a number, and how many of its low digits
+// Where bits are written: the index of the next octet; the bits before it that fill no octet yet, as a number, and how many of its low
+// digits
 // they are; and how many 1s in a row stand before the next bit.
 struct Pen {
     at: usize,

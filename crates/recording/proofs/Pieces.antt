@@ -11,7 +11,8 @@ use Rattle.octets.specs.Numbers.{at}
 use Rattle.octets.specs.Pick.{pick}
 use Rattle.recording.specs.Sections.{longestFrame, leastWindow, Seen, whole, wrong, missing, settingsAt, countAt, frameAt, lengthAt}
 use Rattle.recording.specs.Pieces.{settings, count, frames, bad, Found, nothing, joined, framesIn, countIn, settingsIn}
-use Rattle.recording.proofs.Sections.{countOf, settings-short, settings-other, settings-cut, settings-above, settings-whole, count-short, count-whole, frame-short, frame-long, frame-cut, frame-whole}
+use Rattle.recording.proofs.Sections.{countOf, settings-short, settings-other, settings-cut, settings-above, settings-whole}
+use Rattle.recording.proofs.Sections.{count-short, count-whole, frame-short, frame-long, frame-cut, frame-whole}
 
 -- What stands at the start of w, and that octets behind it change nothing unless some are missing.
 pub data Sight (look : List ℕ → Seen) (used : ℕ → ℕ) (w : List ℕ) : Type 0 where
@@ -32,29 +33,38 @@ module _ (w p : List ℕ) where
   same-count : 4 ≤ length w → countOf w ≡ countOf (w ++ p)
   same-count h = omega (arith, same-at 0 (omega arith), same-at 1 (omega arith), same-at 2 (omega arith), same-at 3 (omega arith))
 
-pub see-frame : (w : List ℕ) → Dec (length w < 2) → Dec (longestFrame < lengthAt w) → Dec (length w < 2 + lengthAt w) → Sight frameAt (λ n. 2 + n) w
+pub see-frame : (w : List ℕ) → Dec (length w < 2) → Dec (longestFrame < lengthAt w) → Dec (length w < 2 + lengthAt w) → Sight frameAt
+    (λ n. 2 + n) w
 see-frame w (yes a) b c = waits _ (frame-short w a) (omega arith) (omega arith)
 see-frame w (no a) (yes b) c = is-bad (λ p. frame-long (w ++ p) (same-length w p (omega (arith, a))) (omega (arith, a, longer w p)) b)
-see-frame w (no a) (no b) (yes c) = waits _ (frame-cut w refl (omega (arith, a)) (omega (arith, b)) c) (omega (arith, c)) (omega (arith, b, c))
+see-frame w (no a) (no b) (yes c) =
+    waits _ (frame-cut w refl (omega (arith, a)) (omega (arith, b)) c) (omega (arith, c)) (omega (arith, b, c))
 see-frame w (no a) (no b) (no c) =
     is-whole (lengthAt w) (omega (arith, c))
-    (λ p. frame-whole (w ++ p) (same-length w p (omega (arith, a))) (omega (arith, a, longer w p)) (omega (arith, b)) (omega (arith, c, longer w p)))
+    (λ p. frame-whole (w ++ p) (same-length w p (omega (arith, a))) (omega (arith, a, longer w p)) (omega (arith, b))
+    (omega (arith, c, longer w p)))
 
 pub see-count : (w : List ℕ) → Dec (length w < 4) → Sight countAt (λ n. 4) w
 see-count w (yes a) = waits _ (count-short w a) (omega arith) (omega arith)
-see-count w (no a) = is-whole (countOf w) (omega (arith, a)) (λ p. count-whole (w ++ p) (same-count w p (omega (arith, a))) (omega (arith, a, longer w p)))
+see-count w (no a) =
+    is-whole (countOf w) (omega (arith, a)) (λ p. count-whole (w ++ p) (same-count w p (omega (arith, a))) (omega (arith, a, longer w p)))
 
-pub see-settings : (w : List ℕ) → Dec (length w < 4) → (b : Bool) → eqb (countOf w) 1 ≡ b → Dec (length w < 5) → Dec (8 < at w 4) → Sight settingsAt (λ n. 5) w
+pub see-settings : (w : List ℕ) → Dec (length w < 4) → (b : Bool) → eqb (countOf w) 1 ≡ b → Dec (length w < 5) → Dec (8 < at w 4)
+    → Sight settingsAt (λ n. 5) w
 see-settings w (yes a) b e c d = waits _ (settings-short w a) (omega arith) (omega arith)
-see-settings w (no a) false e c d = is-bad (λ p. settings-other (w ++ p) (same-count w p (omega (arith, a))) (omega (arith, a, longer w p)) (λ h. false≢true (sym e ∙ eq-eqb _ _ h)))
+see-settings w (no a) false e c d =
+    is-bad (λ p. settings-other (w ++ p) (same-count w p (omega (arith, a))) (omega (arith, a, longer w p))
+    (λ h. false≢true (sym e ∙ eq-eqb _ _ h)))
 see-settings w (no a) true e (yes c) d = waits _ (settings-cut w refl (omega (arith, a)) (eqb-true _ _ e) c) (omega arith) (omega arith)
 see-settings w (no a) true e (no c) (yes d) =
     is-bad
-    (λ p. settings-above (w ++ p) (same-count w p (omega (arith, a))) (eqb-true _ _ e) (omega (arith, c, longer w p)) (omega (arith, d, same-at w p 4 (omega (arith, c)))))
+    (λ p. settings-above (w ++ p) (same-count w p (omega (arith, a))) (eqb-true _ _ e) (omega (arith, c, longer w p))
+    (omega (arith, d, same-at w p 4 (omega (arith, c)))))
 see-settings w (no a) true e (no c) (no d) =
     is-whole (at w 4) (omega (arith, c))
     (λ p. ap whole (sym (same-at w p 4 (omega (arith, c))))
-    ∙ settings-whole (w ++ p) (same-count w p (omega (arith, a))) (eqb-true _ _ e) (omega (arith, c, longer w p)) (omega (arith, d, same-at w p 4 (omega (arith, c)))))
+    ∙ settings-whole (w ++ p) (same-count w p (omega (arith, a))) (eqb-true _ _ e) (omega (arith, c, longer w p))
+    (omega (arith, d, same-at w p 4 (omega (arith, c)))))
 
 -- with no octets behind it
 pub alone : {s : Seen} (look : List ℕ → Seen) (w : List ℕ) → ((p : List ℕ) → s ≡ look (w ++ p)) → s ≡ look w

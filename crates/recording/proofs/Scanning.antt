@@ -12,7 +12,8 @@ use borrow.Author.Tests.{ltb-false, eq-eqb, ne-eqb}
 use Rattle.octets.specs.Numbers.{at}
 use Rattle.octets.specs.Pick.{pick}
 use Rattle.octets.proofs.Choices.{not-picked}
-use Rattle.recording.specs.Sections.{longestFrame, leastWindow, Seen, whole, wrong, missing, told, settingsAt, countAt, frameAt, lengthAt}
+use Rattle.recording.specs.Sections.{longestFrame, leastWindow, Seen, whole, wrong, missing, told, settingsAt, countAt, frameAt}
+use Rattle.recording.specs.Sections.{lengthAt}
 use Rattle.recording.specs.Pieces.{State, settings, count, frames, bad, Found, nothing, joined, found, framesIn}
 use Rattle.recording.specs.Reader.{seenAt, stopped, over, badAt, waiting, passed, scanned, stateOf, tellsOf, Finds, ScansFind}
 use Rattle.recording.specs.declared.Reader.{Reader}
@@ -21,7 +22,9 @@ use Rattle.recording.specs.declared.Scanned.{Scanned}
 use Rattle.recording.specs.declared.Section.{Section}
 use Rattle.recording.specs.declared.Section.the-variants.{Missing, Bad, Whole}
 use Rattle.recording.proofs.Sections.{countOf}
-use Rattle.recording.proofs.Pieces.{Sight, waits, is-bad, is-whole, see-frame, see-count, see-settings, alone, one, accepted, frames-wait, frames-bad, frames-next, count-wait, count-next, count-bad, settings-wait, settings-bad, settings-next, none-left, none-left-empty}
+use Rattle.recording.proofs.Pieces.{Sight, waits, is-bad, is-whole, see-frame, see-count, see-settings, alone, one, accepted}
+use Rattle.recording.proofs.Pieces.{frames-wait, frames-bad, frames-next, count-wait, count-next, count-bad, settings-wait}
+use Rattle.recording.proofs.Pieces.{settings-bad, settings-next, none-left, none-left-empty}
 
 -- What is scanned by what stands there.
 module _ (a : Reader) (w : List ℕ) where
@@ -46,7 +49,8 @@ module _ {a b : Reader} {x : Section} (w : List ℕ) (e : a ≡ b) (h : told x �
   told-bad d k = k ∙ scan-wrong b w (sym (ap told d) ∙ h) ∙ ap (λ (y : Reader). scanned y w) (sym e)
 
   pub told-missing : {n : ℕ} {r : Scanned} → x ≡ Missing n → r ≡ waiting a n → r ≡ scanned a w
-  told-missing {n} d k = k ∙ ap (λ (y : Reader). waiting y n) e ∙ scan-missing b w (sym (ap told d) ∙ h) ∙ ap (λ (y : Reader). scanned y w) (sym e)
+  told-missing {n} d k =
+      k ∙ ap (λ (y : Reader). waiting y n) e ∙ scan-missing b w (sym (ap told d) ∙ h) ∙ ap (λ (y : Reader). scanned y w) (sym e)
 
 pub stays-bad : {a : Reader} (w : List ℕ) → a ≡ reader.Bad → over ≡ scanned a w
 stays-bad w e = scan-wrong reader.Bad w refl ∙ ap (λ (y : Reader). scanned y w) (sym e)
@@ -118,8 +122,10 @@ going : (a : Reader) → isBad (stateOf a []) ≡ false → a ≡ reader.Bad →
 going a e h = not-bad (stateOf a []) e (ap (λ (b : Reader). stateOf b []) h)
 
 -- nothing yet
-find-missing : (a : Reader) (w : List ℕ) (n : ℕ) → found (stateOf a w) ≡ nothing (stateOf a w) → (a ≡ reader.Bad → ⊥) → 0 < n → length w + n ≤ leastWindow → Finds a w (waiting a n)
-find-missing a w n none good some room = record { next = λ p. refl; inside = omega arith; told = (refl, record { none = none; good = good; some = some; room = room }) }
+find-missing : (a : Reader) (w : List ℕ) (n : ℕ) → found (stateOf a w) ≡ nothing (stateOf a w) → (a ≡ reader.Bad → ⊥) → 0 < n
+    → length w + n ≤ leastWindow → Finds a w (waiting a n)
+find-missing a w n none good some room =
+    record { next = λ p. refl; inside = omega arith; told = (refl, record { none = none; good = good; some = some; room = room }) }
 
 find-bad : (a : Reader) (w : List ℕ) → (a ≡ reader.Bad → ⊥) → ((p : List ℕ) → found (stateOf a (w ++ p)) ≡ nothing bad) → Finds a w stopped
 find-bad a w good h = record { next = h; inside = omega arith; told = (refl, good) }
@@ -130,23 +136,32 @@ as-scanned a w e f = subst (Finds a w) e f
 find-settings : (w : List ℕ) → Sight settingsAt (λ t. 5) w → Finds reader.Settings w (scanned reader.Settings w)
 unfolding isBad accepted
 find-settings w (waits n e some room) =
-    as-scanned reader.Settings w (scan-missing reader.Settings w e) (find-missing reader.Settings w n (settings-wait w e) (going reader.Settings refl) some room)
+    as-scanned reader.Settings w (scan-missing reader.Settings w e)
+    (find-missing reader.Settings w n (settings-wait w e) (going reader.Settings refl) some room)
 find-settings w (is-bad e) =
-    as-scanned reader.Settings w (scan-wrong reader.Settings w (alone settingsAt w e)) (find-bad reader.Settings w (going reader.Settings refl) (λ p. settings-bad (w ++ p) (e p)))
+    as-scanned reader.Settings w (scan-wrong reader.Settings w (alone settingsAt w e))
+    (find-bad reader.Settings w (going reader.Settings refl) (λ p. settings-bad (w ++ p) (e p)))
 find-settings w (is-whole t l e) =
     as-scanned reader.Settings w (scan-whole reader.Settings w (alone settingsAt w e))
     (record {
-      next = λ p. settings-next (w ++ p) (e p) ∙ ap (λ (x : List ℕ). joined (tellsOf (passed reader.Settings t .taken) w) (found (count x))) (drop-append-le 5 w p l);
+      next = λ p. settings-next (w ++ p) (e p) ∙ ap (λ (x : List ℕ). joined (tellsOf (passed reader.Settings t .taken) w) (found (count x)))
+          (drop-append-le 5 w p l);
       inside = l;
-      told = (record { some = omega arith; before = going reader.Settings refl; behind = going reader.Count refl }, small-t w (alone settingsAt w e));
+      told = (
+        record { some = omega arith; before = going reader.Settings refl; behind = going reader.Count refl },
+        small-t w
+            (alone settingsAt w e),
+      );
     })
 
 find-count : (w : List ℕ) → Sight countAt (λ t. 4) w → Finds reader.Count w (scanned reader.Count w)
 unfolding isBad
 find-count w (waits n e some room) =
-    as-scanned reader.Count w (scan-missing reader.Count w e) (find-missing reader.Count w n (count-wait w e) (going reader.Count refl) some room)
+    as-scanned reader.Count w (scan-missing reader.Count w e)
+    (find-missing reader.Count w n (count-wait w e) (going reader.Count refl) some room)
 find-count w (is-bad e) =
-    as-scanned reader.Count w (scan-wrong reader.Count w (alone countAt w e)) (find-bad reader.Count w (going reader.Count refl) (λ p. count-bad (w ++ p) (e p)))
+    as-scanned reader.Count w (scan-wrong reader.Count w (alone countAt w e))
+    (find-bad reader.Count w (going reader.Count refl) (λ p. count-bad (w ++ p) (e p)))
 find-count w (is-whole n l e) =
     as-scanned reader.Count w (scan-whole reader.Count w (alone countAt w e))
     (record {
@@ -187,11 +202,19 @@ find-frame n w (is-whole k l e) =
     (record {
       next = λ p. frames-next (w ++ p) n (e p)
           ∙ ap (λ (x : List ℕ). joined (record { t = []; frames = x ∷ []; state = bad }) (framesIn n (drop (2 + k) (w ++ p)))) (octets p)
-          ∙ ap (λ (x : List ℕ). joined (record { t = []; frames = take k (drop 2 w) ∷ []; state = bad }) (framesIn n x)) (drop-append-le (2 + k) w p l)
-          ∙ ap (λ (m : ℕ). joined (record { t = []; frames = take m (drop 2 w) ∷ []; state = bad }) (framesIn n (drop (2 + k) w ++ p))) (same-size k)
-          ∙ ap (λ (m : ℕ). joined (record { t = []; frames = take (2 + k - 2) (drop 2 w) ∷ []; state = bad }) (framesIn m (drop (2 + k) w ++ p))) (one-less n);
+          ∙ ap (λ (x : List ℕ). joined (record { t = []; frames = take k (drop 2 w) ∷ []; state = bad }) (framesIn n x))
+          (drop-append-le (2 + k) w p l)
+          ∙ ap (λ (m : ℕ). joined (record { t = []; frames = take m (drop 2 w) ∷ []; state = bad }) (framesIn n (drop (2 + k) w ++ p)))
+          (same-size k)
+          ∙ ap (λ (m : ℕ). joined (record { t = []; frames = take (2 + k - 2) (drop 2 w) ∷ []; state = bad })
+          (framesIn m (drop (2 + k) w ++ p))) (one-less n);
       inside = l;
-      told = (record { some = omega arith; before = going (reader.Frames (suc n)) refl; behind = going (reader.Frames (suc n - 1)) refl }, omega arith, l, λ p. no-t (suc n - 1) p);
+      told = (
+        record { some = omega arith; before = going (reader.Frames (suc n)) refl; behind = going (reader.Frames (suc n - 1)) refl },
+        omega arith,
+        l,
+        λ p. no-t (suc n - 1) p,
+      );
     })
 
 find-last : (w : List ℕ) → Finds (reader.Frames 0) w (scanned (reader.Frames 0) w)
@@ -208,4 +231,5 @@ scans-find reader.Settings w = find-settings w (see-settings w (decLt _ _) (eqb 
 scans-find reader.Count w = find-count w (see-count w (decLt _ _))
 scans-find (reader.Frames zero) w = find-last w
 scans-find (reader.Frames (suc n)) w = find-frame n w (see-frame w (decLt _ _) (decLt _ _) (decLt _ _))
-scans-find reader.Bad w = as-scanned reader.Bad w (scan-wrong reader.Bad w refl) (record { next = λ p. refl; inside = omega arith; told = (refl, refl) })
+scans-find reader.Bad w =
+    as-scanned reader.Bad w (scan-wrong reader.Bad w refl) (record { next = λ p. refl; inside = omega arith; told = (refl, refl) })

@@ -36,7 +36,8 @@ unfoldable pub framesIn : ℕ → List ℕ → Found
 framesIn zero w = nothing (pick (eqb (length w) 0) (frames 0 w) bad)
 framesIn (suc n) w =
     pick (frameAt w .whole)
-    (joined (record { t = []; frames = take (frameAt w .number) (drop 2 w) ∷ []; state = bad }) (framesIn n (drop (2 + frameAt w .number) w)))
+    (joined (record { t = []; frames = take (frameAt w .number) (drop 2 w) ∷ []; state = bad })
+    (framesIn n (drop (2 + frameAt w .number) w)))
     (waiting (frameAt w) (frames (suc n) w))
 
 unfoldable pub countIn : List ℕ → Found

@@ -21,7 +21,8 @@ use Rattle.packet.proofs.Back.{length-of}
 use Rattle.packet.proofs.Back.{reads-back as packet-reads-back, writes-back as packet-writes-back}
 use Rattle.report.specs.Table.{pair, findPair}
 use Rattle.report.specs.Report.{contentOf, lengthWrong, lineAbove}
-use Rattle.report.specs.Write.{numbersOf, lengthsOf, stringsOf, joined, sourceData, pairWrong, lengthsWrong, lineWrong, contentWrong, reportOctets}
+use Rattle.report.specs.Write.{numbersOf, lengthsOf, stringsOf, joined, sourceData, pairWrong, lengthsWrong, lineWrong, contentWrong}
+use Rattle.report.specs.Write.{reportOctets}
 use Rattle.report.specs.Back.{ReadsBack, WritesBack}
 use Rattle.report.proofs.Known.{Kind, a-success, a-failure, a-housekeeping, an-available, a-line}
 use Rattle.report.proofs.Known.{Of, of-success, of-failure, of-housekeeping, of-available, of-line}
@@ -100,7 +101,8 @@ reads-back r strings right =
           ∙ packet-accepted s {x = packet-read.Packet p} (sym (packet-reads-back p (sourceData c strings) f .fields)) refl);
       parts =
           strings-cut c s
-          ∙ cut-joined (lengthsOf c) strings s _ (14 + length (numbersOf c)) le (after-source p (numbersOf c) (joined strings)) (omega arith);
+          ∙ cut-joined (lengthsOf c) strings s _ (14 + length (numbersOf c)) le (after-source p (numbersOf c) (joined strings))
+          (omega arith);
     }
 
 -- c as the packet s has it, whose fields are p

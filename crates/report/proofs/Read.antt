@@ -11,7 +11,6 @@ use Rattle.octets.proofs.Choices.{picked, passed}
 use Rattle.answer.specs.Told.{accept, refuse}
 use Rattle.answer.specs.Refusals as refusal
 use Rattle.packet.specs.Packet.{readPacket}
-use Rattle.packet.specs.Packet.{told as packet-told}
 use Rattle.report.specs.Table.{findPair, success, failure, housekeeping, available, imageLine}
 use Rattle.report.specs.Report.{contentOf, lengthWrong, lineAbove, noReport, inPair, readContent, readReport}
 use Rattle.report.proofs.Known.{kind, some-octets, of-success, of-failure, of-housekeeping, of-available}
@@ -24,6 +23,7 @@ use Rattle.report.specs.declared.table.Found.the-variants as found
 use Rattle.report.specs.declared.Content.{Content}
 use Rattle.report.specs.declared.Content.the-variants as content
 use Rattle.report.specs.declared.Report.{Report}
+use Rattle.packet.specs.Packet.{told as packet-told}
 
 -- f is what the search gave
 module _ (p : Packet) (s : List ℕ) {f : Found} (e : f ≡ findPair (p .service) (p .subtype)) where
@@ -44,7 +44,8 @@ module _ (p : Packet) (s : List ℕ) {f : Found} (e : f ≡ findPair (p .service
       unfolding readContent inPair
       line-refused u = passed _ _ _ _ t (picked _ _ _ u) ∙ ap (λ (x : Found). inPair x p s) (sym k ∙ e)
 
-      pub report-read : {c : Content} → lineAbove p s ≡ false → c ≡ contentOf p s → accept (record { packet = p; content = c }) ≡ readContent p s
+      pub report-read : {c : Content} → lineAbove p s ≡ false → c ≡ contentOf p s → accept
+          (record { packet = p; content = c }) ≡ readContent p s
       unfolding readContent inPair
       report-read u ec =
           passed _ _ _ _ t (passed _ _ _ _ u (ap (λ (x : Content). accept {A = Report} (record { packet = p; content = x })) ec))
@@ -57,11 +58,13 @@ module _ (p : Packet) (s : List ℕ) where
   above e f h = rw (e, f) at h
 
   -- the content, from what was read of s and what the tests of the pair said
-  module _ {first second third : ℕ} (e₁ : first ≡ word (at s 14) (at s 15)) (e₂ : second ≡ word (at s 16) (at s 17)) (e₃ : third ≡ word (at s 18) (at s 19)) where
+  module _ {first second third : ℕ} (e₁ : first ≡ word (at s 14) (at s 15)) (e₂ : second ≡ word (at s 16) (at s 17))
+      (e₃ : third ≡ word (at s 18) (at s 19)) where
     pub success-read : {t : Bool} → t ≡ success p → t ≡ true → content.Success (record { id = first; control = second }) ≡ contentOf p s
     success-read u h = rw (e₁, e₂) (sym (of-success p (sym u ∙ h) .content s))
 
-    pub failure-read : {t : Bool} → t ≡ failure p → t ≡ true → content.Failure (record { id = first; control = second; code = third }) ≡ contentOf p s
+    pub failure-read : {t : Bool} → t ≡ failure p → t ≡ true → content.Failure
+        (record { id = first; control = second; code = third }) ≡ contentOf p s
     failure-read u h = rw (e₁, e₂, e₃) (sym (of-failure p (sym u ∙ h) .content s))
 
     pub available-read : {t : Bool} → t ≡ available p → t ≡ true
@@ -74,7 +77,8 @@ module _ (p : Packet) (s : List ℕ) where
       → content.Housekeeping (record { sid = sid; length = p .length - 1 }) ≡ contentOf p s
   housekeeping-read e u h = rw e (sym (of-housekeeping p (sym u ∙ h) .content s))
 
-  pub line-read : {image line : ℕ} → image ≡ word (at s 14) (at s 15) → line ≡ at s 16 → success p ≡ false → failure p ≡ false → housekeeping p ≡ false
+  pub line-read : {image line : ℕ} → image ≡ word (at s 14) (at s 15) → line ≡ at s 16 → success p ≡ false → failure p ≡ false
+      → housekeeping p ≡ false
       → available p ≡ false → content.Line (record { image = image; line = line }) ≡ contentOf p s
   unfolding contentOf
   line-read e₁ e₂ h₁ h₂ h₃ h₄ =

@@ -9,13 +9,13 @@ use Rattle.octets.specs.Numbers.{at}
 use Rattle.octets.specs.Pick.{pick}
 use Rattle.answer.specs.Told.{TellsNothing, NoneLeftOut}
 use Rattle.answer.proofs.Told.{same-fields, same-refusal, accept-or-refuse, refuse-or-accept, had-back}
-use Rattle.packet.proofs.Told.{none-left-out as packet-none-left-out}
 use Rattle.report.specs.Report.{contentNumbers, reportNumbers, told, RefusalsTellNothing}
 use Rattle.report.specs.declared.Content.{Content}
 use Rattle.report.specs.declared.Content.the-variants as content
 use Rattle.report.specs.declared.Report.{Report}
 use Rattle.report.specs.declared.ReportRead.{ReportRead}
 use Rattle.report.specs.declared.ReportRead.the-variants as read
+use Rattle.packet.proofs.Told.{none-left-out as packet-none-left-out}
 
 pub told-apart : (x y : ReportRead) → told x ≡ told y → x ≡ y
 told-apart (read.Report r) (read.Report q) h = ap read.Report (same-fields h)

@@ -52,7 +52,8 @@ success-fixed κs a x y s t p q = one-written p q
 pub failure-fixed : Fixes kfailure.ps kfailure.r {A = Written × List ℕ} rfailure.Post (λ κs x s. (x, now (s .1 .1 .0)))
 failure-fixed κs a x y s t p q = one-written p q
 
-pub housekeeping-fixed : Fixes khousekeeping.ps khousekeeping.r {A = Written × List ℕ} rhousekeeping.Post (λ κs x s. (x, now (s .1 .1 .1 .0)))
+pub housekeeping-fixed : Fixes khousekeeping.ps khousekeeping.r {A = Written × List ℕ} rhousekeeping.Post
+    (λ κs x s. (x, now (s .1 .1 .1 .0)))
 housekeeping-fixed κs a x y s t p q = one-written p q
 
 pub available-fixed : Fixes kavailable.ps kavailable.r {A = Written × List ℕ} ravailable.Post (λ κs x s. (x, now (s .1 .1 .1 .1 .0)))

@@ -44,7 +44,8 @@ four-laid a b c d o {o₁} {o₂} {o₃} {o₄} l k e₁ e₂ e₃ e₄ =
     let f₁ : o₁ ≡ written a o = e₁ ∙ put-first a o (omega arith) in
     let f₂ : o₂ ≡ written (a ++ b) o = after a b o (length a) f₁ e₂ refl (omega arith) in
     let f₃ : o₃ ≡ written ((a ++ b) ++ c) o = after (a ++ b) c o (length a + length b) f₂ e₃ (sym m₂) (omega arith) in
-    let f₄ : o₄ ≡ written (((a ++ b) ++ c) ++ d) o = after ((a ++ b) ++ c) d o (length a + length b + length c) f₃ e₄ (sym m₃) (omega arith) in
+    let f₄ : o₄ ≡ written (((a ++ b) ++ c) ++ d) o = after ((a ++ b) ++ c) d o (length a + length b + length c) f₃ e₄ (sym m₃)
+    (omega arith) in
     ap (take n) f₄ ∙ take-at (((a ++ b) ++ c) ++ d) _ n m₄ ∙ simp (append-assoc, append-nil)
 
 -- the core's test passed
@@ -116,7 +117,8 @@ module _ (p : Packet) {t : Bool} where
   housekeeping-wrong c rest e = simp (e, or-none)
 
   pub available-wrong : (c : Available) (first second : List ℕ) → t ≡ available p
-      → (not t || (not (eqb (length first) 80) || not (eqb (length second) 80))) ≡ contentWrong p (content.Available c) (first ∷ second ∷ [])
+      → (not t || (not (eqb (length first) 80) || not (eqb (length second) 80))) ≡ contentWrong p (content.Available c)
+      (first ∷ second ∷ [])
   available-wrong c first second e = simp (e, or-none)
 
   pub line-wrong : (c : Line) (pixels : List ℕ) → t ≡ imageLine p

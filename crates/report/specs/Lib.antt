@@ -1,4 +1,5 @@
 pub mod Limits
+pub mod Places
 pub mod Table
 pub mod Report
 pub mod Write

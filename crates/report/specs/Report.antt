@@ -1,5 +1,5 @@
 -- Document 01, 'Reports': what reading one gives. A packet's source data starts at its octet 14.
-use Prim.Native.Nat.{ℕ, _-_}
+use Prim.Native.Nat.{ℕ, _+_, _-_}
 use mathlib.Core.List.{List, [], _∷_, _++_}
 use mathlib.Core.Bool.{Bool, _&&_, _||_}
 use lib.Dec.{ltb}
@@ -11,6 +11,7 @@ use Rattle.answer.specs.Refusals as refusal
 use Rattle.packet.specs.Packet.{noPacket, packetNumbers, readPacket}
 use Rattle.packet.specs.declared.Packet.{Packet}
 use Rattle.report.specs.Limits.{lastLine, pixelsLength, blockLength}
+use Rattle.report.specs.Places.{firstAt, controlAt, codeAt, restAt, ticksAt, firstBlockAt, secondBlockAt, lineAt, pixelsAt}
 use Rattle.report.specs.Table.{findPair, success, failure, housekeeping, available, imageLine}
 use Rattle.report.specs.declared.table.Pair.{Pair}
 use Rattle.report.specs.declared.table.Found.{Found}
@@ -28,35 +29,45 @@ use Rattle.report.specs.declared.ReportRead.the-variants as read
 
 -- Two words of the telecommand; a failure adds a code.
 abbrev pub successOf : List ℕ → Success
-successOf s = record { id = word (at s 14) (at s 15); control = word (at s 16) (at s 17) }
+successOf s = record { id = word (at s firstAt) (at s (firstAt + 1)); control = word (at s controlAt) (at s (controlAt + 1)) }
 
 abbrev pub failureOf : List ℕ → Failure
 failureOf s =
-    record { id = word (at s 14) (at s 15); control = word (at s 16) (at s 17); code = word (at s 18) (at s 19) }
+    record {
+      id = word (at s firstAt) (at s (firstAt + 1));
+      control = word (at s controlAt) (at s (controlAt + 1));
+      code = word
+          (at s codeAt) (at s (codeAt + 1));
+    }
 
 -- SID, then the rest uncut.
 abbrev pub housekeepingOf : Packet → List ℕ → Housekeeping
-housekeepingOf p s = record { sid = at s 14; length = p .length - 1 }
+housekeepingOf p s = record { sid = at s firstAt; length = p .length - 1 }
 
 abbrev pub restOf : Housekeeping → List ℕ → List ℕ
-restOf h s = part s 15 (h .length)
+restOf h s = part s restAt (h .length)
 
 -- Image number (2), ticks (4), two blocks of 80.
 abbrev pub availableOf : List ℕ → Available
-availableOf s = record { image = word (at s 14) (at s 15); ticks = four (at s 16) (at s 17) (at s 18) (at s 19) }
+availableOf s =
+    record {
+      image = word (at s firstAt) (at s (firstAt + 1));
+      ticks = four (at s ticksAt) (at s (ticksAt + 1)) (at s (ticksAt + 2))
+          (at s (ticksAt + 3));
+    }
 
 abbrev pub firstBlock : List ℕ → List ℕ
-firstBlock s = part s 20 blockLength
+firstBlock s = part s firstBlockAt blockLength
 
 abbrev pub secondBlock : List ℕ → List ℕ
-secondBlock s = part s 100 blockLength
+secondBlock s = part s secondBlockAt blockLength
 
 -- Image number (2), line (1), 188 pixels.
 abbrev pub lineOf : List ℕ → Line
-lineOf s = record { image = word (at s 14) (at s 15); line = at s 16 }
+lineOf s = record { image = word (at s firstAt) (at s (firstAt + 1)); line = at s lineAt }
 
 abbrev pub pixelsOf : List ℕ → List ℕ
-pixelsOf s = part s 17 pixelsLength
+pixelsOf s = part s pixelsAt pixelsLength
 
 -- The content of a packet of a known pair.
 unfoldable pub contentOf : Packet → List ℕ → Content

@@ -22,7 +22,8 @@ use packet::Packet;
 // Four strings one after another, with zeros after them.
 fn lay(a: &[u8], b: &[u8], c: &[u8], d: &[u8]) -> [u8; 478]
     requires { ⌜ Short (now a) (now b) (now c) (now d) ⌝ }
-    ensures { λ r. ⌜ take (length (now (a .entry)) + length (now (b .entry)) + length (now (c .entry)) + length (now (d .entry))) r ≡ together (now (a .entry)) (now (b .entry)) (now (c .entry)) (now (d .entry)) ⌝ }
+    ensures { λ r. ⌜ take (length (now (a .entry)) + length (now (b .entry)) + length (now (c .entry)) + length (now (d .entry))) r ≡
+        together (now (a .entry)) (now (b .entry)) (now (c .entry)) (now (d .entry)) ⌝ }
 {
     let mut source = [0u8; 478];
     let after_a = a.len();
@@ -35,7 +36,8 @@ fn lay(a: &[u8], b: &[u8], c: &[u8], d: &[u8]) -> [u8; 478]
     source
 }
 
-// The core: refusal 51 if wrong or a string is longer than any source data, else what the packet's writer does with four strings one after another.
+// The core: refusal 51 if wrong or a string is longer than any source data, else what the packet's writer does with four strings one after
+// another.
 fn write(
     wrong: bool,
     packet: Packet,
@@ -46,7 +48,8 @@ fn write(
     out: &mut [u8],
 ) -> Written
     requires { ⌜ (length (now a) ≤ 4) × (length (now b) ≤ 4) ⌝ }
-    ensures { λ r. ⌜ WroteSource wrong packet (together (now (a .entry)) (now (b .entry)) (now (c .entry)) (now (d .entry))) (now (out .entry)) r (now (out .exit)) ⌝ }
+    ensures { λ r. ⌜ WroteSource wrong packet (together (now (a .entry)) (now (b .entry)) (now (c .entry)) (now (d .entry)))
+        (now (out .entry)) r (now (out .exit)) ⌝ }
 {
     if wrong | (Packet::LONGEST_SOURCE < c.len()) | (Packet::LONGEST_SOURCE < d.len()) {
         return Written::Refused(answer::FIELD_RANGE);
@@ -96,7 +99,8 @@ impl Housekeeping {
 impl Available {
     // Writes an available image: image number, ticks and two blocks.
     pub fn write(self, packet: Packet, first: &[u8], second: &[u8], out: &mut [u8]) -> Written
-        ensures { λ r. ⌜ WroteReport packet (Content.Available self) (now (first .entry) ∷ now (second .entry) ∷ []) (now (out .entry)) r (now (out .exit)) ⌝ }
+        ensures { λ r. ⌜ WroteReport packet (Content.Available self) (now (first .entry) ∷ now (second .entry) ∷ []) (now (out .entry)) r
+            (now (out .exit)) ⌝ }
     {
         let wrong = !table::available(packet.service, packet.subtype)
             | ((first.len() != Available::BLOCK) | (second.len() != Available::BLOCK));

@@ -4,3 +4,5 @@ pub mod Bounds
 pub mod Cutting
 pub mod Step
 pub mod Lengths
+pub mod Room
+pub mod Cuts

@@ -6,7 +6,8 @@ use Prim.Native.Nat.{ℕ, zero, suc}
 use lib.ListN.{drop}
 use lib.Dec.{eqb}
 use Rattle.counts.specs.Lost.{lostSince, number}
-use Rattle.rules.specs.Channel.{Held, nothing, cleared, grown, Handed, given, Standing, unfinished, whole, wrong, standing, Work, holding, settle, sixth, push, feed, fits, enter, follow, afterLoss, step}
+use Rattle.rules.specs.Channel.{Held, nothing, cleared, grown, Handed, given, Standing, unfinished, whole, wrong, standing, Work}
+use Rattle.rules.specs.Channel.{holding, settle, sixth, push, feed, fits, enter, follow, afterLoss, step}
 use Rattle.rules.specs.Step.{StepFields}
 use Rattle.rules.specs.Bounds.{Under, StepArrivals, StepFirst}
 
@@ -57,4 +58,5 @@ none-cleared h e = rw e
 
 pub step-first : StepFirst
 step-first a c f =
-    rw (step-fields a c f .held) (none-cleared (afterLoss a (number (lostSince (c .last) (f .count))) (c .inStep) (c .held) (f .pointer) (f .octets) .held))
+    rw (step-fields a c f .held) (none-cleared
+    (afterLoss a (number (lostSince (c .last) (f .count))) (c .inStep) (c .held) (f .pointer) (f .octets) .held))

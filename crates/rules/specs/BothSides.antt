@@ -58,7 +58,8 @@ full = one ++ one ++ one ++ one ++ one ++ one ++ one ++ one ++ one ++ one ++ one
 pub record BothSides : Type 0 where
   -- Rules 3 and 5. A packet that ends with its data, then one whose header is split over three frames.
   pub split :
-      replies (frame 7 0 one ∷ frame 8 0 (take 3 two) ∷ frame 9 255 (take 1 (drop 3 two)) ∷ frame 10 255 (take 3 (drop 4 two)) ∷ frame 11 23 (drop 7 two ++ one) ∷ [])
+      replies (frame 7 0 one ∷ frame 8 0 (take 3 two) ∷ frame 9 255 (take 1 (drop 3 two)) ∷ frame 10 255 (take 3 (drop 4 two)) ∷ frame 11 23
+      (drop 7 two ++ one) ∷ [])
       ≡ atFirst (out 1 1 one ∷ []) ∷ reply 0 [] ∷ reply 0 [] ∷ reply 0 [] ∷ reply 0 (out 2 5 two ∷ out 5 5 one ∷ []) ∷ []
   -- Rule 1. A frame, be it empty, is lost inside a packet: the packet goes, and rule 4 takes the frame.
   pub gap :
@@ -66,22 +67,27 @@ pub record BothSides : Type 0 where
   -- The greatest loss that a count can show.
   pub most : replies (frame 3 0 (take 10 one) ∷ frame 3 6 (drop 10 one ++ two) ∷ []) ≡ atFirst [] ∷ reply 255 (out 2 2 two ∷ []) ∷ []
   -- Rule 2. A raw frame inside a packet changes nothing.
-  pub raw : replies (frame 0 0 (take 10 one) ∷ frame 1 254 two ∷ frame 2 255 (drop 10 one) ∷ []) ≡ atFirst [] ∷ reply 0 [] ∷ reply 0 (out 1 3 one ∷ []) ∷ []
+  pub raw : replies (frame 0 0 (take 10 one) ∷ frame 1 254 two ∷ frame 2 255 (drop 10 one) ∷ []) ≡ atFirst [] ∷ reply 0 [] ∷ reply 0
+      (out 1 3 one ∷ []) ∷ []
   -- Rule 3. The pointer isn't the place after the held packet: it is dropped, and rule 4 takes the frame.
   pub pointer : replies (frame 0 0 (take 10 one) ∷ frame 1 7 (drop 10 one ++ 9 ∷ two) ∷ []) ≡ atFirst [] ∷ reply 0 (out 2 2 two ∷ []) ∷ []
   -- Rule 3. The held packet's length becomes known here and is 15 or 252.
-  pub short : replies (frame 0 0 (take 4 (packetOf 15 1)) ∷ frame 1 11 (drop 4 (packetOf 15 1) ++ two) ∷ []) ≡ atFirst [] ∷ reply 0 (out 2 2 two ∷ []) ∷ []
-  pub long : replies (frame 0 0 (take 4 (packetOf 252 1)) ∷ frame 1 255 (drop 4 (packetOf 252 1)) ∷ frame 2 0 one ∷ []) ≡ atFirst [] ∷ reply 0 [] ∷ reply 0 (out 3 3 one ∷ []) ∷ []
+  pub short : replies (frame 0 0 (take 4 (packetOf 15 1)) ∷ frame 1 11 (drop 4 (packetOf 15 1) ++ two) ∷ []) ≡ atFirst [] ∷ reply 0
+      (out 2 2 two ∷ []) ∷ []
+  pub long : replies (frame 0 0 (take 4 (packetOf 252 1)) ∷ frame 1 255 (drop 4 (packetOf 252 1)) ∷ frame 2 0 one ∷ []) ≡ atFirst [] ∷ reply
+      0 [] ∷ reply 0 (out 3 3 one ∷ []) ∷ []
   -- Rule 4. Out of step, 255 skips all.
   pub skip : replies (frame 0 255 one ∷ frame 1 0 one ∷ []) ≡ atFirst [] ∷ reply 0 (out 2 2 one ∷ []) ∷ []
   -- Rule 5. A length of 15 or 252 begun here drops the rest, and what came before stays handed out; 251 passes.
   pub rest : replies (frame 0 0 (one ++ packetOf 15 2 ++ one) ∷ []) ≡ atFirst (out 1 1 one ∷ []) ∷ []
   pub left : step 1 fresh (frame 0 0 (packetOf 15 2)) .next .inStep ≡ false
-  pub over : replies (frame 0 0 (one ++ packetOf 252 2) ∷ frame 1 255 (drop 200 (packetOf 252 2)) ∷ []) ≡ atFirst (out 1 1 one ∷ []) ∷ reply 0 [] ∷ []
+  pub over : replies (frame 0 0 (one ++ packetOf 252 2) ∷ frame 1 255 (drop 200 (packetOf 252 2)) ∷ []) ≡ atFirst
+      (out 1 1 one ∷ []) ∷ reply 0 [] ∷ []
   pub greatest : replies (frame 0 0 (packetOf 251 2) ∷ []) ≡ atFirst (out 1 1 (packetOf 251 2) ∷ []) ∷ []
   -- Most packets of one frame: one held but for its last octet, and fifteen more.
   pub sixteen :
-      replies (frame 0 0 (take 15 one) ∷ frame 1 1 (1 ∷ one ++ one ++ one ++ one ++ one ++ one ++ one ++ one ++ one ++ one ++ one ++ one ++ one ++ one ++ one) ∷ [])
+      replies (frame 0 0 (take 15 one) ∷ frame 1 1
+      (1 ∷ one ++ one ++ one ++ one ++ one ++ one ++ one ++ one ++ one ++ one ++ one ++ one ++ one ++ one ++ one) ∷ [])
       ≡ atFirst [] ∷ reply 0 (out 1 2 one ∷ replicate 15 (out 2 2 one)) ∷ []
   -- Headers: a sixth octet reached counts, whatever becomes of the packet; one that was held before does not.
   pub fifth : step 1 fresh (frame 0 0 (one ++ take 5 two)) .headers ≡ 1
@@ -98,7 +104,8 @@ pub record BothSides : Type 0 where
   pub seventeen-headers : step 2 (within (take 5 one)) (frame 1 0 full) .headers ≡ 17
   pub most-data : length full ≡ mostData
   -- A first number that a channel was handed in with: as it stands while octets are held, 0 with none.
-  pub handed-in : step 5 (record { last = some 3; inStep = true; held = heldOf 9 (take 10 one) }) (frame 4 255 (drop 10 one)) .packets ≡ out 9 5 one ∷ []
+  pub handed-in : step 5 (record { last = some 3; inStep = true; held = heldOf 9 (take 10 one) })
+      (frame 4 255 (drop 10 one)) .packets ≡ out 9 5 one ∷ []
   pub none-held : step 5 (record { last = some 3; inStep = true; held = heldOf 9 [] }) (frame 4 254 two) .next .held ≡ nothing
   -- Refusal 4, both sides of each line.
   pub part : heldWrong true 15 one ≡ false

@@ -5,7 +5,8 @@ use mathlib.Core.List.{List, [], _∷_, _++_}
 use mathlib.Core.Bool.{Bool, true, false, cond}
 use lib.Dec.{leb}
 use lib.ListN.{length, take, drop}
-use Rattle.rules.specs.Channel.{Held, heldOf, nothing, begunIn, cleared, Handed, Work, holding, feed, standing, unfinished, whole, wrong, lengthIn}
+use Rattle.rules.specs.Channel.{Held, heldOf, nothing, begunIn, cleared, Work, holding, feed, standing, unfinished, whole}
+use Rattle.rules.specs.Channel.{wrong, lengthIn}
 use Rattle.rules.specs.Packets.{bare, firsts}
 
 -- What of a channel's work does not depend on arrival numbers: in step or not, the octets held, the packets handed out, the headers.
@@ -57,7 +58,8 @@ CutsOn = (a n : ℕ) (h : Held) (xs : List ℕ) → standing (h .octets) ≡ unf
 
 -- An unfinished packet is held; a wrong length drops the rest; a whole packet is handed out and the rest is cut.
 abbrev pub CutsUnfinished : Type 0
-CutsUnfinished = (s : List ℕ) → standing s ≡ unfinished → cutOf s ≡ record { inStep = true; held = s; packets = []; headers = header (length s) }
+CutsUnfinished =
+    (s : List ℕ) → standing s ≡ unfinished → cutOf s ≡ record { inStep = true; held = s; packets = []; headers = header (length s) }
 
 abbrev pub CutsWrong : Type 0
 CutsWrong = (s : List ℕ) → standing s ≡ wrong → cutOf s ≡ record { inStep = false; held = []; packets = []; headers = 1 }

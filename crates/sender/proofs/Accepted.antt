@@ -20,8 +20,10 @@ use Rattle.sender.specs.Stream.{Choice, next, framesBy}
 use Rattle.sender.specs.Sender.{sentOctets}
 use Rattle.sender.specs.Frames.{Wanted, packetsOf, framedFrom, fullFrames, choicesOf, framesOf}
 use Rattle.lengths.specs.Lengths.{lengthsWrong}
-use Rattle.sender.specs.Send.{Lent, Outcome, refused, commonWrong, anyTurnedAway, sizeWrong, roomWrong, observed, made, octetsOf, sentOf, tells, countAfter, sending, emptyOctets}
-use Rattle.sender.specs.Calls.{SendCall, EmptyCall, Call, sends, empties, Does, commonOf, masterOf, countOf, sentBy, leftBy, madeBy, packetsBy, taken}
+use Rattle.sender.specs.Send.{Lent, Outcome, refused, commonWrong, anyTurnedAway, sizeWrong, roomWrong, observed, made, octetsOf}
+use Rattle.sender.specs.Send.{sentOf, tells, countAfter, sending, emptyOctets}
+use Rattle.sender.specs.Calls.{SendCall, EmptyCall, Call, sends, empties, Does, commonOf, masterOf, countOf, sentBy, leftBy, madeBy}
+use Rattle.sender.specs.Calls.{packetsBy, taken}
 use Rattle.sender.specs.declared.Sent.{Sent}
 use Rattle.sender.specs.declared.SendAnswer.the-variants as answer
 use Rattle.sender.proofs.Numbered.{stepped, stepped-is, octets-upto, upto-count}
@@ -37,7 +39,8 @@ pub record Accepted (c : SendCall) : Type 0 where
   pub good : AllGood (packetsOf (c .wanted))
   pub least : 0 < c .wanted .size
   pub greatest : c .wanted .size ≤ 251 - c .wanted .common .t
-  pub outcome : made (c .wanted .master) (c .wanted .count) (octetsOf (c .wanted)) (c .lent) ≡ observed (answer.Sent (c .sent)) (c .left .octets) (c .left .lengths)
+  pub outcome : made (c .wanted .master) (c .wanted .count) (octetsOf (c .wanted)) (c .lent) ≡ observed (answer.Sent (c .sent))
+      (c .left .octets) (c .left .lengths)
 
 not-refused : (n : ℕ) (l : Lent) (s : Sent) (o q : List ℕ) → refused n l ≡ observed (answer.Sent s) o q → ⊥
 not-refused n l s o q e = refuse-or-accept (ap (λ (x : Outcome). x .answer) e)
@@ -48,7 +51,8 @@ accepted c h =
     let w : Wanted = c .wanted in
     let no : (n : ℕ) → refused n (c .lent) ≡ observed (answer.Sent (c .sent)) (c .left .octets) (c .left .lengths) → ⊥ =
     λ n. not-refused n (c .lent) (c .sent) (c .left .octets) (c .left .lengths) in
-    let a = not-picked (commonWrong (w .common) (w .master) (w .count) (w .time) || lengthsWrong (w .lengths) (length (w .octets))) _ _ _ (sym h) (no _) in
+    let a = not-picked (commonWrong (w .common) (w .master) (w .count) (w .time) || lengthsWrong (w .lengths) (length (w .octets))) _ _ _
+    (sym h) (no _) in
     let b = not-picked (anyTurnedAway (packetsOf w)) _ _ _ (a .1) (no _) in
     let d = not-picked (sizeWrong (w .size) (w .common .t)) _ _ _ (b .1) (no _) in
     let e = not-picked (roomWrong (octetsOf w) (c .lent)) _ _ _ (d .1) (no _) in
@@ -77,7 +81,8 @@ pub record Made (c : Call) : Type 0 where
   pub octets : leftBy c ≡ map (sentOctets (commonOf c .t)) (madeBy c)
 
 pub frames-by : (w : Wanted)
-    → framesOf w ≡ framedFrom (w .common) (w .time) (w .master) (framesBy (packetsOf w) 0 (w .count) (choicesOf (w .size) (length (joined (packetsOf w)))))
+    → framesOf w ≡ framedFrom (w .common) (w .time) (w .master)
+    (framesBy (packetsOf w) 0 (w .count) (choicesOf (w .size) (length (joined (packetsOf w)))))
 unfolding framesOf
 frames-by w = refl
 
@@ -93,7 +98,8 @@ made-sent c h =
     let count : length cs ≡ suc (fullFrames (w .size) (length (w .octets))) =
     count-all (w .size) (length (joined (packetsOf w))) ∙ ap (λ (n : ℕ). suc (fullFrames (w .size) n)) m in
     let on : (k : ℕ) → countAfter k (length (octetsOf w)) ≡ stepped (length cs) k =
-    λ k. ap (countAfter k) number ∙ sym (stepped-is (fullFrames (w .size) (length (w .octets))) k) ∙ ap (λ (n : ℕ). stepped n k) (sym count) in
+    λ k. ap (countAfter k) number ∙ sym (stepped-is (fullFrames (w .size) (length (w .octets))) k) ∙ ap (λ (n : ℕ). stepped n k)
+    (sym count) in
     record {
       time = w .time;
       fields = a .fields;

@@ -20,7 +20,8 @@ use Rattle.packet.specs.declared.Packet.{Packet}
 use Rattle.rules.specs.Packets.{Good, AllGood, joined, total}
 use Rattle.sender.specs.Frames.{Wanted, packetsOf, fullFrames}
 use Rattle.lengths.specs.Lengths.{lengthsWrong}
-use Rattle.sender.specs.Send.{Lent, Outcome, refused, commonWrong, turnedAway, anyTurnedAway, sizeWrong, roomWrong, made, octetsOf, sending}
+use Rattle.sender.specs.Send.{Lent, Outcome, refused, commonWrong, turnedAway, anyTurnedAway, sizeWrong, roomWrong, made, octetsOf}
+use Rattle.sender.specs.Send.{sending}
 use Rattle.sender.specs.Asked.{tooShort, Ready}
 use Rattle.sender.proofs.One.{time-most, time-lent}
 use Rattle.sender.proofs.Numbered.{octetsUpTo, full-least, full-most, octets-upto, upto-count, upto-more, octets-length}
@@ -67,13 +68,15 @@ module _ (w : Wanted) (adds : total (w .lengths) ≡ length (w .octets)) (least 
   all-size =
       let most : length (w .octets) ≤ full * w .size + w .size = full-most (w .size) (length (w .octets)) least in
       let up : suc full * w .size ≡ full * w .size + w .size = omega arith in
-      let own : suc full * (23 + w .common .t) ≡ (full + 1) * (23 + w .common .t) = ap (λ (n : ℕ). n * (23 + w .common .t)) (sym (add-one full)) in
+      let own : suc full * (23 + w .common .t) ≡ (full + 1) * (23 + w .common .t) = ap (λ (n : ℕ). n * (23 + w .common .t))
+      (sym (add-one full)) in
       omega (arith, ap (λ (fs : List (List ℕ)). length (joined fs)) (octets-upto w adds least), upto-size (suc full) (omega arith))
 
   all-count : length (octetsOf w) ≡ suc full
   all-count = ap length (octets-upto w adds least) ∙ upto-count w (suc full)
 
-  pub room-is : (l : Lent) → tooShort (length (l .octets)) (length (l .lengths)) (length (w .octets)) full (w .common .t) ≡ roomWrong (octetsOf w) l
+  pub room-is : (l : Lent) → tooShort (length (l .octets)) (length (l .lengths)) (length (w .octets)) full (w .common .t) ≡ roomWrong
+      (octetsOf w) l
   room-is l = sym (rw (all-size, all-count, leb·suc-suc))
 
 -- ---- the data length

@@ -10,12 +10,13 @@ use lib.Dec.{eqb}
 use borrow.Author.Tests.{eqb-true}
 use Rattle.rules.specs.Channel.{Piece}
 use Rattle.rules.specs.Packets.{AllGood, joined, cut, total}
-use Rattle.rules.proofs.Bounds.{joined-append}
+use Rattle.rules.proofs.Room.{joined-append}
 use Rattle.rules.proofs.Lengths.{joined-cut}
 use Rattle.sender.specs.Stream.{Choice, raw, next, nextCount, framesBy}
 use Rattle.sender.specs.Sender.{Framed, sentOctets, AllWellFormed, Mastered, when, ofChannel, pieceOf, piecesOf}
 use Rattle.sender.specs.Frames.{Wanted, packetsOf, framedFrom, fullFrames, choicesOf, framesOf}
-use Rattle.sender.specs.Calls.{Call, commonOf, masterOf, countOf, sentBy, leftBy, madeBy, packetsBy, overAll, packetsOn, counted, HandedOn, taken, CallsByRules, CallsCutBySize}
+use Rattle.sender.specs.Calls.{Call, commonOf, masterOf, countOf, sentBy, leftBy, madeBy, packetsBy, overAll, packetsOn, counted}
+use Rattle.sender.specs.Calls.{HandedOn, taken, CallsByRules, CallsCutBySize}
 use Rattle.sender.specs.declared.Common.{Common}
 use Rattle.sender.proofs.Numbered.{stepped, full-below, full-most}
 use Rattle.sender.proofs.Joining.{by-both, well-formed, well-append, mastered, mastered-append}
@@ -26,13 +27,15 @@ use Rattle.sender.proofs.Accepted.{accepted, frames-by, Made, made-by}
 
 pieces-append : (v : ℕ) (fs gs : List Framed) → piecesOf v (fs ++ gs) ≡ piecesOf v fs ++ piecesOf v gs
 pieces-append v [] gs = refl
-pieces-append v (f ∷ fs) gs = rw (pieces-append v fs gs) (sym (append-assoc (when (ofChannel v f) (pieceOf f)) (piecesOf v fs) (piecesOf v gs)))
+pieces-append v (f ∷ fs) gs =
+    rw (pieces-append v fs gs) (sym (append-assoc (when (ofChannel v f) (pieceOf f)) (piecesOf v fs) (piecesOf v gs)))
 
 pieces-own : (c : Common) (time : List ℕ) (v m : ℕ) (ps : List Piece) → eqb (c .channel) v ≡ true → piecesOf v (framedFrom c time m ps) ≡ ps
 pieces-own c time v m [] e = refl
 pieces-own c time v m (p ∷ ps) e = rw e (ap (λ (l : List Piece). p ∷ l) (pieces-own c time v (nextCount m) ps e))
 
-pieces-other : (c : Common) (time : List ℕ) (v m : ℕ) (ps : List Piece) → eqb (c .channel) v ≡ false → piecesOf v (framedFrom c time m ps) ≡ []
+pieces-other : (c : Common) (time : List ℕ) (v m : ℕ) (ps : List Piece) → eqb (c .channel) v ≡ false → piecesOf v
+    (framedFrom c time m ps) ≡ []
 pieces-other c time v m [] e = refl
 pieces-other c time v m (p ∷ ps) e = rw e (pieces-other c time v (nextCount m) ps e)
 
@@ -63,7 +66,8 @@ streamed-own {c} m {v} {first} {n} {rest} {packets} e f k s =
       sent =
           pieces-append v (madeBy c) rest
           ∙ ap (λ (fs : List Framed). piecesOf v fs ++ piecesOf v rest) (m .frames)
-          ∙ ap (λ (ps : List Piece). ps ++ piecesOf v rest) (pieces-own (commonOf c) (m .time) v (masterOf c) (framesBy (packetsBy c) 0 (countOf c) (m .choices)) e)
+          ∙ ap (λ (ps : List Piece). ps ++ piecesOf v rest)
+          (pieces-own (commonOf c) (m .time) v (masterOf c) (framesBy (packetsBy c) 0 (countOf c) (m .choices)) e)
           ∙ ap (λ (ps : List Piece). framesBy (packetsBy c) 0 (countOf c) (m .choices) ++ ps)
           (s .sent ∙ ap (λ (j : ℕ). framesBy packets 0 j (s .choices)) (k ∙ m .count))
           ∙ sym (by-both (packetsBy c) packets (m .choices) (s .choices) (countOf c) (m .whole))
@@ -88,7 +92,8 @@ streamed-other {c} m {v} {first} {rest} e s =
       sent =
           pieces-append v (madeBy c) rest
           ∙ ap (λ (fs : List Framed). piecesOf v fs ++ piecesOf v rest) (m .frames)
-          ∙ ap (λ (ps : List Piece). ps ++ piecesOf v rest) (pieces-other (commonOf c) (m .time) v (masterOf c) (framesBy (packetsBy c) 0 (countOf c) (m .choices)) e)
+          ∙ ap (λ (ps : List Piece). ps ++ piecesOf v rest)
+          (pieces-other (commonOf c) (m .time) v (masterOf c) (framesBy (packetsBy c) 0 (countOf c) (m .choices)) e)
           ∙ s .sent;
       whole = s .whole;
     }
@@ -115,7 +120,8 @@ all-formed t master counts (c ∷ cs) h =
     let m = made-by c (h .0) in
     well-append t (madeBy c) (overAll madeBy cs)
     (subst (λ (k : ℕ). AllWellFormed k (madeBy c)) (h .1)
-    (rw (m .frames) (well-formed (commonOf c) (masterOf c) (countOf c) (m .time) (m .fields) (packetsBy c) (m .choices) 0 (masterOf c) (countOf c) (m .fit))))
+    (rw (m .frames) (well-formed (commonOf c) (masterOf c) (countOf c) (m .time) (m .fields) (packetsBy c) (m .choices) 0 (masterOf c)
+    (countOf c) (m .fit))))
     (all-formed t (sentBy c .master .0) (counted counts (commonOf c .channel) (sentBy c .count .0)) cs (h .4))
 
 frames-count : (c : Common) (time : List ℕ) (m : ℕ) (ps : List Piece) → length (framedFrom c time m ps) ≡ length ps
@@ -135,7 +141,8 @@ all-mastered t master counts (c ∷ cs) h =
     ap length (m .frames) ∙ frames-count (commonOf c) (m .time) (masterOf c) (framesBy (packetsBy c) 0 (countOf c) (m .choices))
     ∙ pieces-count (packetsBy c) 0 (countOf c) (m .choices) in
     let first : Mastered master (madeBy c) =
-    subst (λ (k : ℕ). Mastered k (madeBy c)) (h .2) (rw (m .frames) (mastered (commonOf c) (m .time) (masterOf c) (framesBy (packetsBy c) 0 (countOf c) (m .choices)))) in
+    subst (λ (k : ℕ). Mastered k (madeBy c)) (h .2)
+    (rw (m .frames) (mastered (commonOf c) (m .time) (masterOf c) (framesBy (packetsBy c) 0 (countOf c) (m .choices)))) in
     let on : sentBy c .master .0 ≡ stepped (length (madeBy c)) master =
     m .master ∙ ap (λ (n : ℕ). stepped n (masterOf c)) (sym number) ∙ ap (stepped (length (madeBy c))) (h .2) in
     mastered-append (madeBy c) (overAll madeBy cs) master first
@@ -166,7 +173,14 @@ calls-by-rules t master counts calls small few h =
             small = small;
             masters = all-mastered t master counts calls h;
             streams = λ v l. (let s = streamed v t master counts calls h in
-                record { packets = packetsOn v calls; good = s .good; choices = s .choices; first = counts v; small = few v; sent = s .sent });
+                record {
+                  packets = packetsOn v calls;
+                  good = s .good;
+                  choices = s .choices;
+                  first = counts v;
+                  small = few v;
+                  sent = s .sent;
+                });
           };
       octets = all-left t master counts calls h;
       packets = λ v l. refl;
@@ -193,7 +207,8 @@ calls-cut-by-size c h =
     let cs : List Choice = choicesOf (w .size) m in
     let taken-is : taken cs ≡ m = taken-all (w .size) m (a .least) in
     let data-is : map (λ (f : Framed). f .«data») (framesOf w) ≡ dataOf (framesBy (packetsOf w) 0 (w .count) cs) =
-    ap (map (λ (f : Framed). f .«data»)) (frames-by w) ∙ data-framed (w .common) (w .time) (w .master) (framesBy (packetsOf w) 0 (w .count) cs) in
+    ap (map (λ (f : Framed). f .«data»)) (frames-by w) ∙ data-framed (w .common) (w .time) (w .master)
+    (framesBy (packetsOf w) 0 (w .count) cs) in
     record {
       before = full;
       last = m - full * w .size;
@@ -201,6 +216,7 @@ calls-cut-by-size c h =
       shorter = omega (arith, full-most (w .size) m (a .least));
       none = λ z. no-packets (w .octets) (w .lengths) (a .adds) (a .good) (omega (arith, all, full-below (w .size) m));
       octets =
-          ap joined data-is ∙ data-joined (251 - w .common .t) (packetsOf w) cs 0 (w .count) (fit-all (251 - w .common .t) (w .size) m (a .least) (a .greatest))
+          ap joined data-is ∙ data-joined (251 - w .common .t) (packetsOf w) cs 0 (w .count)
+          (fit-all (251 - w .common .t) (w .size) m (a .least) (a .greatest))
           ∙ take-all (taken cs) (joined (packetsOf w)) (omega arith);
     }

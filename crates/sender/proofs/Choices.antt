@@ -57,7 +57,8 @@ amounts-all size m = amounts-full (fullFrames size m) size (m - fullFrames size 
 abbrev pub dataOf : List Piece → List (List ℕ)
 dataOf fs = map (λ (p : Piece). p .octets) fs
 
-pub data-lengths : (ps : List (List ℕ)) (cs : List Choice) (o c : ℕ) → o + taken cs ≤ length (joined ps) → map length (dataOf (framesBy ps o c cs)) ≡ amounts cs
+pub data-lengths : (ps : List (List ℕ)) (cs : List Choice) (o c : ℕ) → o + taken cs ≤ length (joined ps) → map length
+    (dataOf (framesBy ps o c cs)) ≡ amounts cs
 data-lengths ps [] o c h = refl
 data-lengths ps (raw xs ∷ cs) o c h = rw (data-lengths ps cs o (nextCount c) h)
 data-lengths ps (next n ∷ cs) o c h =

@@ -11,7 +11,7 @@ use borrow.Author.Tests.{lt-ltb}
 use Rattle.frame.specs.Frame.{pointerWrong}
 use Rattle.rules.specs.Channel.{Piece}
 use Rattle.rules.specs.Packets.{joined}
-use Rattle.rules.proofs.Bounds.{joined-append}
+use Rattle.rules.proofs.Room.{joined-append}
 use Rattle.sender.specs.Stream.{heads, firstFrom, Choice, raw, next, nextCount, framesBy}
 use Rattle.sender.specs.Sender.{Framed, AllWellFormed, Mastered}
 use Rattle.sender.specs.Frames.{framedFrom}
@@ -48,7 +48,8 @@ front : {A : Type 0} (xs ys : List A) (o n : ℕ) → o + n ≤ length xs → ta
 front xs ys o n h =
     ap (take n) (drop-append-le o xs ys (omega arith)) ∙ take-append-le n (drop o xs) ys (omega (arith, length-drop o xs))
 
-by-front : (ps qs : List (List ℕ)) (cs : List Choice) (o c : ℕ) → o + taken cs ≤ length (joined ps) → framesBy (ps ++ qs) o c cs ≡ framesBy ps o c cs
+by-front : (ps qs : List (List ℕ)) (cs : List Choice) (o c : ℕ) → o + taken cs ≤ length (joined ps) → framesBy
+    (ps ++ qs) o c cs ≡ framesBy ps o c cs
 by-front ps qs [] o c h = refl
 by-front ps qs (raw xs ∷ cs) o c h = rw (by-front ps qs cs o (nextCount c) h)
 by-front ps qs (next n ∷ cs) o c h =
@@ -58,7 +59,8 @@ by-front ps qs (next n ∷ cs) o c h =
     ap (λ (b : List ℕ). take n (drop o b)) (joined-append ps qs) ∙ front (joined ps) (joined qs) o n (omega arith) in
     rw (starts, octets, by-front ps qs cs (o + n) (nextCount c) (omega arith))
 
-by-behind : (ps qs : List (List ℕ)) (cs : List Choice) (o m c : ℕ) → m ≡ length (joined ps) + o → framesBy (ps ++ qs) m c cs ≡ framesBy qs o c cs
+by-behind : (ps qs : List (List ℕ)) (cs : List Choice) (o m c : ℕ) → m ≡ length (joined ps) + o → framesBy
+    (ps ++ qs) m c cs ≡ framesBy qs o c cs
 by-behind ps qs [] o m c e = refl
 by-behind ps qs (raw xs ∷ cs) o m c e = rw (by-behind ps qs cs o m (nextCount c) e)
 by-behind ps qs (next n ∷ cs) o m c e =

@@ -13,7 +13,7 @@ use Rattle.octets.specs.Parts.{written}
 use Rattle.frame.specs.Write.{fieldsWrong}
 use Rattle.rules.specs.Channel.{Piece, pointerTo}
 use Rattle.rules.specs.Packets.{joined}
-use Rattle.rules.proofs.Bounds.{joined-append}
+use Rattle.rules.proofs.Room.{joined-append}
 use Rattle.sender.specs.Stream.{nextCount}
 use Rattle.sender.specs.Sender.{sentOctets}
 use Rattle.sender.specs.Frames.{Wanted, framed, fullFrames}
@@ -23,7 +23,8 @@ use Rattle.sender.specs.declared.Common.{Common}
 use Rattle.sender.specs.declared.SendAnswer.the-variants as answer
 use Rattle.sender.proofs.Starts.{first-zero, begun-later, pointer-is}
 use Rattle.sender.proofs.One.{time-most, time-lent}
-use Rattle.sender.proofs.Numbered.{stepped, stepped-is, sizeNo, dataNo, pieceNo, octetsNo, octetsUpTo, full-least, octets-upto, upto-count, upto-more, upto-within, octets-length}
+use Rattle.sender.proofs.Numbered.{stepped, stepped-is, sizeNo, dataNo, pieceNo, octetsNo, octetsUpTo, full-least, octets-upto}
+use Rattle.sender.proofs.Numbered.{upto-count, upto-more, upto-within, octets-length}
 
 -- ---- lists
 
@@ -104,7 +105,8 @@ module _ {w : Wanted} {l l′ : Lent} {full i start all own place end k : ℕ} (
   pub lengths-length-kept : length (l′ .lengths) ≡ length (l .lengths)
   lengths-length-kept =
       ap length (s .lengths)
-      ∙ written-length (map length (octetsUpTo w k)) (l .lengths) (omega (arith, length-map (octetsUpTo w k) length, upto-count w k, s .upto, all-lengths))
+      ∙ written-length (map length (octetsUpTo w k)) (l .lengths)
+      (omega (arith, length-map (octetsUpTo w k) length, upto-count w k, s .upto, all-lengths))
 
   pub end-inside : end ≤ length (l′ .octets)
   end-inside = omega (arith, s .room, upto-room, octets-length-kept)
@@ -167,7 +169,8 @@ module _ {w : Wanted} {l l′ : Lent} {full i start all own place end k : ℕ} (
       within h = record { within = omega (arith, place-fits, r .adds); counted = omega (arith, r .adds) }
 
       module _ {x : ℕ} {p : List ℕ}
-          (f : Framing (w .common) all own (w .time) (take n (drop place (w .octets))) (start - place) (take (length (l′ .octets) - end) (drop end (l′ .octets))) x p) where
+          (f : Framing (w .common) all own (w .time) (take n (drop place (w .octets))) (start - place)
+          (take (length (l′ .octets) - end) (drop end (l′ .octets))) x p) where
         data-size : length (take n (drop place (w .octets))) ≡ n
         data-size = simp (length-take, length-drop) (omega (arith, place-fits))
 
@@ -195,11 +198,13 @@ module _ {w : Wanted} {l l′ : Lent} {full i start all own place end k : ℕ} (
         frame-left : p ≡ written (octetsNo w k) (drop end (l′ .octets))
         frame-left =
             f .leaves
-            ∙ ap (λ (q : Piece). written (sentOctets (w .common .t) (framed (w .common) (w .time) all q)) (take (length (l′ .octets) - end) (drop end (l′ .octets)))) piece-is
+            ∙ ap (λ (q : Piece). written (sentOctets (w .common .t) (framed (w .common) (w .time) all q))
+            (take (length (l′ .octets) - end) (drop end (l′ .octets)))) piece-is
             ∙ rw (part-to-end, s .master)
 
         pub so-far-more : {i′ start′ all′ own′ : ℕ} → all′ ≡ nextCount all → own′ ≡ nextCount own → First (w .lengths) (place + n) i′ start′
-            → SoFar w l (lent (putMid end (length (l′ .octets) - end) (l′ .octets) p) (set (l′ .lengths) k x)) full i′ start′ all′ own′ (place + n) (end + x) (k + 1)
+            → SoFar w l (lent (putMid end (length (l′ .octets) - end) (l′ .octets) p) (set (l′ .lengths) k x)) full i′ start′ all′ own′
+            (place + n) (end + x) (k + 1)
         so-far-more ea eo first =
             let a : List (List ℕ) = octetsUpTo w k in
             let y : List ℕ = octetsNo w k in
@@ -207,11 +212,13 @@ module _ {w : Wanted} {l l′ : Lent} {full i start all own place end k : ℕ} (
             let count : length b ≡ k = length-map a length ∙ upto-count w k in
             let none : drop (length (l′ .octets) - end) (drop end (l′ .octets)) ≡ [] =
             drop-drop (length (l′ .octets) - end) end (l′ .octets)
-            ∙ ap (λ (j : ℕ). drop j (l′ .octets)) (let j : end + (length (l′ .octets) - end) ≡ length (l′ .octets) = omega (arith, end-inside) in j)
+            ∙ ap (λ (j : ℕ). drop j (l′ .octets))
+            (let j : end + (length (l′ .octets) - end) ≡ length (l′ .octets) = omega (arith, end-inside) in j)
             ∙ drop-length (l′ .octets) in
             let put : putMid end (length (l′ .octets) - end) (l′ .octets) p ≡ take end (l′ .octets) ++ p =
             rw none (ap (λ (z : List ℕ). take end (l′ .octets) ++ z) (append-nil p)) in
-            let ends : joined (a ++ (y ∷ [])) ≡ joined a ++ y = joined-append a (y ∷ []) ∙ ap (λ (z : List ℕ). joined a ++ z) (append-nil y) in
+            let ends : joined (a ++ (y ∷ [])) ≡ joined a ++ y = joined-append a (y ∷ []) ∙ ap (λ (z : List ℕ). joined a ++ z)
+            (append-nil y) in
             let so : take end (l′ .octets) ++ p ≡ written (joined a ++ y) (l .octets) =
             rw (frame-left, s .octets, s .room) (written-next (joined a) y (l .octets)) in
             rw (add-one k) (record {
@@ -224,30 +231,35 @@ module _ {w : Wanted} {l l′ : Lent} {full i start all own place end k : ℕ} (
               octets = put ∙ so ∙ ap (λ (z : List ℕ). written z (l .octets)) (sym ends);
               lengths = ap (λ (z : List ℕ). set z k x) (s .lengths) ∙ ap (λ (j : ℕ). set (written b (l .lengths)) j x) (sym count)
                   ∙ set-next b (l .lengths) x (omega (arith, count, all-lengths))
-                  ∙ ap (λ (z : List ℕ). written z (l .lengths)) (ap (λ (z : ℕ). b ++ (z ∷ [])) (x-is ∙ sym long) ∙ sym (map-snoc length a y));
+                  ∙ ap (λ (z : List ℕ). written z (l .lengths))
+                  (ap (λ (z : ℕ). b ++ (z ∷ [])) (x-is ∙ sym long) ∙ sym (map-snoc length a y));
             })
 
 -- ---- behind the last frame
 
 pub so-far-all : {w : Wanted} {l l′ : Lent} {full i start all own place end k : ℕ} → Ready w full l
     → SoFar w l l′ full i start all own place end k → full < k
-    → _≡_ {A = Outcome} (observed (answer.Sent (record { frames = k; octets = end; master = record { 0 = all }; count = record { 0 = own } })) (l′ .octets) (l′ .lengths))
+    → _≡_ {A = Outcome} (observed (answer.Sent
+    (record { frames = k; octets = end; master = record { 0 = all }; count = record { 0 = own } })) (l′ .octets) (l′ .lengths))
     (made (w .master) (w .count) (octetsOf w) l)
 so-far-all {w} {l} {l′} {full} {i} {start} {all} {own} {place} {end} {k} r s h =
     let last : k ≡ suc full = omega (arith, s .upto) in
     let frames : octetsUpTo w k ≡ octetsOf w = ap (octetsUpTo w) (last ∙ ap suc (r .before)) ∙ sym (octets-upto w (r .adds) (r .least)) in
     let number : k ≡ length (octetsOf w) = sym (upto-count w k) ∙ ap length frames in
     let master : all ≡ countAfter (w .master) (length (octetsOf w)) =
-    s .master ∙ ap (λ (j : ℕ). stepped j (w .master)) last ∙ stepped-is full (w .master) ∙ ap (countAfter (w .master)) (sym last ∙ number) in
+    s .master ∙ ap (λ (j : ℕ). stepped j (w .master)) last ∙ stepped-is full (w .master) ∙ ap (countAfter (w .master))
+    (sym last ∙ number) in
     let count : own ≡ countAfter (w .count) (length (octetsOf w)) =
     s .count ∙ ap (λ (j : ℕ). stepped j (w .count)) last ∙ stepped-is full (w .count) ∙ ap (countAfter (w .count)) (sym last ∙ number) in
     let octets : end ≡ length (joined (octetsOf w)) = s .room ∙ ap (λ (z : List (List ℕ)). length (joined z)) frames in
-    let left : l′ .octets ≡ written (joined (octetsOf w)) (l .octets) = s .octets ∙ ap (λ (z : List (List ℕ)). written (joined z) (l .octets)) frames in
+    let left : l′ .octets ≡ written (joined (octetsOf w)) (l .octets) = s .octets ∙ ap
+    (λ (z : List (List ℕ)). written (joined z) (l .octets)) frames in
     let entries : l′ .lengths ≡ written (map length (octetsOf w)) (l .lengths) =
     s .lengths ∙ ap (λ (z : List (List ℕ)). written (map length z) (l .lengths)) frames in
     alike number octets master count left entries
   where
     alike : {k₁ k₂ e₁ e₂ m₁ m₂ c₁ c₂ : ℕ} {o₁ o₂ q₁ q₂ : List ℕ} → k₁ ≡ k₂ → e₁ ≡ e₂ → m₁ ≡ m₂ → c₁ ≡ c₂ → o₁ ≡ o₂ → q₁ ≡ q₂
-        → _≡_ {A = Outcome} (observed (answer.Sent (record { frames = k₁; octets = e₁; master = record { 0 = m₁ }; count = record { 0 = c₁ } })) o₁ q₁)
+        → _≡_ {A = Outcome} (observed (answer.Sent
+        (record { frames = k₁; octets = e₁; master = record { 0 = m₁ }; count = record { 0 = c₁ } })) o₁ q₁)
         (observed (answer.Sent (record { frames = k₂; octets = e₂; master = record { 0 = m₂ }; count = record { 0 = c₂ } })) o₂ q₂)
     alike a b c d e f = rw (a, b, c, d, e, f)

@@ -8,7 +8,7 @@ use lib.ListN.{length, take, drop, replicate, length-take, length-drop, length-a
 use Rattle.frame.proofs.Laying.{length-octets}
 use Rattle.rules.specs.Channel.{Piece}
 use Rattle.rules.specs.Packets.{joined, total}
-use Rattle.rules.proofs.Bounds.{joined-append}
+use Rattle.rules.proofs.Room.{joined-append}
 use Rattle.rules.proofs.Lengths.{joined-cut}
 use Rattle.rules.proofs.Standing.{Order, upTo, past, order}
 use Rattle.sender.specs.Stream.{heads, firstFrom, next, nextCount, framesBy}
@@ -65,7 +65,8 @@ module _ (w : Wanted) where
   octetsUpTo zero = []
   octetsUpTo (suc k) = octetsUpTo k ++ (octetsNo k ∷ [])
 
-  map-append : (fs gs : List Framed) → map (sentOctets (w .common .t)) (fs ++ gs) ≡ map (sentOctets (w .common .t)) fs ++ map (sentOctets (w .common .t)) gs
+  map-append : (fs gs : List Framed) → map (sentOctets (w .common .t)) (fs ++ gs) ≡ map (sentOctets (w .common .t)) fs ++ map
+      (sentOctets (w .common .t)) gs
   map-append [] gs = refl
   map-append (f ∷ fs) gs = ap (λ (l : List (List ℕ)). sentOctets (w .common .t) f ∷ l) (map-append fs gs)
 
@@ -103,7 +104,8 @@ module _ (w : Wanted) (e : total (w .lengths) ≡ length (w .octets)) where
 
   numbered : (j i : ℕ) → (i + j) * w .size ≤ length (w .octets) → length (w .octets) ≤ (i + j) * w .size + w .size
       → framedFrom (w .common) (w .time) (stepped i (w .master))
-      (framesBy (packetsOf w) (i * w .size) (stepped i (w .count)) (replicate j (next (w .size)) ++ (next (length (w .octets) - (i + j) * w .size) ∷ [])))
+      (framesBy (packetsOf w) (i * w .size) (stepped i (w .count))
+      (replicate j (next (w .size)) ++ (next (length (w .octets) - (i + j) * w .size) ∷ [])))
       ≡ framesFrom w i (suc j)
   numbered zero i h l =
       let q : length (w .octets) - (i + 0) * w .size ≡ sizeNo w i = omega arith in
@@ -117,7 +119,8 @@ module _ (w : Wanted) (e : total (w .lengths) ≡ length (w .octets)) where
       let q : w .size ≡ sizeNo w i = omega arith in
       let rest : List Framed =
       framedFrom (w .common) (w .time) (stepped (suc i) (w .master))
-      (framesBy (packetsOf w) (i * w .size + w .size) (stepped (suc i) (w .count)) (replicate j (next (w .size)) ++ (next (length (w .octets) - (i + suc j) * w .size) ∷ []))) in
+      (framesBy (packetsOf w) (i * w .size + w .size) (stepped (suc i) (w .count))
+      (replicate j (next (w .size)) ++ (next (length (w .octets) - (i + suc j) * w .size) ∷ []))) in
       let behind : rest ≡ framesFrom w (suc i) (suc j) = rw (up, same) (numbered j (suc i) h′ l′) in
       ap (λ (p : Piece). framed (w .common) (w .time) (stepped i (w .master)) p ∷ rest) (one i (w .size) q)
       ∙ ap (λ (fs : List Framed). frameNo w i ∷ fs) behind
@@ -149,7 +152,13 @@ module _ (w : Wanted) where
   pub upto-more : (k : ℕ) → length (joined (octetsUpTo w (suc k))) ≡ length (joined (octetsUpTo w k)) + length (octetsNo w k)
   upto-more k =
       let a : List (List ℕ) = octetsUpTo w k in
-      omega (arith, ap length (joined-append a (octetsNo w k ∷ [])), length-append (joined a) (octetsNo w k ++ []), length-append (octetsNo w k) [])
+      omega (
+        arith,
+        ap length (joined-append a (octetsNo w k ∷ [])),
+        length-append (joined a) (octetsNo w k ++ []),
+        length-append
+            (octetsNo w k) [],
+      )
 
   pub upto-within : (j k : ℕ) → j ≤ k → length (joined (octetsUpTo w j)) ≤ length (joined (octetsUpTo w k))
   upto-within zero k h = omega arith

@@ -134,7 +134,8 @@ module _ (c : Common) (master count : ℕ) (time out : List ℕ) {f : Frame} {r 
       }
 
   pub emptied-sent : {n all own : ℕ} → r ≡ written.Length n → all ≡ nextCount master → own ≡ nextCount count
-      → Emptied c master count time out (answer.Sent (record { frames = 1; octets = n; master = record { 0 = all }; count = record { 0 = own } })) out′
+      → Emptied c master count time out (answer.Sent
+      (record { frames = 1; octets = n; master = record { 0 = all }; count = record { 0 = own } })) out′
   unfolding retold pick
   emptied-sent er ea eo = emptied (rw (er, ea, eo))
 
@@ -148,13 +149,20 @@ chosen : {A : Type 0} (b s : Bool) (x y z : A) → b ≡ false → s ≡ false �
 unfolding pick
 chosen b s x y z p q = simp (p, q)
 
-module _ (c : Common) (master count : ℕ) (time out : List ℕ) {r : SendAnswer} {out′ : List ℕ} (e : Emptied c master count time out r out′) where
+module _ (c : Common) (master count : ℕ) (time out : List ℕ) {r : SendAnswer} {out′ : List ℕ}
+    (e : Emptied c master count time out r out′) where
   pub made-right : {s : Sent} → r ≡ answer.Sent s → false ≡ commonWrong c master count time
   made-right {s} p =
       sym (not-picked (commonWrong c master count time) _ _ _ (sym (e .answers) ∙ ap told p) refuse-or-accept .0)
 
   long : commonWrong c master count time ≡ false → length (emptyOctets c master count time) ≤ 31
-  long h = omega (arith, length-octets (emptyFrame c time master count .fields) (c .t) [] time, time-most c master count time h, time-lent c master count time h)
+  long h = omega (
+    arith,
+    length-octets (emptyFrame c time master count .fields)
+        (c .t) [] time,
+    time-most c master count time h,
+    time-lent c master count time h,
+  )
 
   pub refused-wrong : {n : ℕ} → 31 ≤ length out → r ≡ answer.Refused n → true ≡ commonWrong c master count time
   refused-wrong {n} room p = go (commonWrong c master count time) refl

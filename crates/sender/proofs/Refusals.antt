@@ -1,15 +1,13 @@
 -- Laws of the loops that look for a refusal.
-use Prim.Native.Nat.{ℕ, zero, suc, _+_, _-_, _*_, _/_, _%_, _≤_, _<_}
+use Prim.Native.Nat.{ℕ, _+_, _-_, _*_, _/_, _%_, _≤_, _<_}
 use mathlib.Core.Path.{_≡_, refl, sym, ap, _∙_}
-use mathlib.Core.List.{List, [], _∷_}
+use mathlib.Core.List.{List}
 use mathlib.Core.Bool.{Bool, true, false, not, _||_}
 use native.Mathlib.Omega.{arith}
 use native.Mathlib.Nat.{div-add-mod', mod-lt, mul-le-mul-right, add-mul, one-mul, zero-div}
-use native.Mathlib.Numerals.{add-one}
 use lib.ListN.{length, getD, take, drop}
-use lib.Seq.{drop-cons, drop-drop, drop-length}
-use lib.Dec.{ltb, leb, eqb}
-use borrow.Author.Tests.{lt-ltb, le-ltb, eq-eqb, ne-eqb}
+use lib.Dec.{ltb, leb}
+use borrow.Author.Tests.{lt-ltb, le-ltb}
 use Rattle.rules.specs.Packets.{cut, total}
 use Rattle.rules.proofs.Standing.{Order, upTo, past, order}
 use Rattle.lengths.proofs.Reached.{Reached, reached-first, reached-fits, reached-next, cut-here, cut-over}
@@ -47,15 +45,18 @@ module _ {d ns : List ℕ} {at i : ℕ} (t : Seen d ns at i) where
   seen-fits e h = reached-fits (t .reached) d e h
 
   module _ (h : i < length ns) where
-    front : anyTurnedAway (cut d ns) ≡ (turnedAway (take (getD ns i 0) (drop at d)) || anyTurnedAway (cut (drop (at + getD ns i 0) d) (drop (i + 1) ns)))
+    front : anyTurnedAway (cut d ns) ≡ (turnedAway (take (getD ns i 0) (drop at d)) || anyTurnedAway
+        (cut (drop (at + getD ns i 0) d) (drop (i + 1) ns)))
     front = sym (t .same) ∙ ap anyTurnedAway (cut-here d ns at i h)
 
-    here : {said : Bool} → said ≡ turnedAway (take ((at + getD ns i 0) - at) (drop at d)) → turnedAway (take (getD ns i 0) (drop at d)) ≡ said
+    here : {said : Bool} → said ≡ turnedAway (take ((at + getD ns i 0) - at) (drop at d)) → turnedAway
+        (take (getD ns i 0) (drop at d)) ≡ said
     here p =
         let k : (at + getD ns i 0) - at ≡ getD ns i 0 = omega arith in
         sym (p ∙ ap (λ (j : ℕ). turnedAway (take j (drop at d))) k)
 
-    pub seen-away : {said : Bool} → said ≡ turnedAway (take ((at + getD ns i 0) - at) (drop at d)) → said ≡ true → true ≡ anyTurnedAway (cut d ns)
+    pub seen-away : {said : Bool} → said ≡ turnedAway (take ((at + getD ns i 0) - at) (drop at d)) → said ≡ true → true ≡ anyTurnedAway
+        (cut d ns)
     seen-away p q = sym (front ∙ rw (here p ∙ q))
 
     pub seen-next : {said : Bool} → said ≡ turnedAway (take ((at + getD ns i 0) - at) (drop at d)) → said ≡ false
@@ -82,7 +83,8 @@ short-else o q n full t h = ap (λ (b : Bool). b || leb q full) (go (order ((o -
     go : Order ((o - n) / (23 + t)) full → leb ((o - n) / (23 + t)) full ≡ ltb o (n + (full + 1) * (23 + t))
     go (upTo l e) =
         let m : ((o - n) / (23 + t) + 1) * (23 + t) ≤ (full + 1) * (23 + t) = mul-le-mul-right (23 + t) (omega arith) in
-        let a : ((o - n) / (23 + t) + 1) * (23 + t) ≡ (o - n) / (23 + t) * (23 + t) + (23 + t) = add-mul ((o - n) / (23 + t)) 1 (23 + t) ∙ rw (one-mul (23 + t)) in
+        let a : ((o - n) / (23 + t) + 1) * (23 + t) ≡ (o - n) / (23 + t) * (23 + t) + (23 + t) = add-mul ((o - n) / (23 + t)) 1 (23 + t)
+        ∙ rw (one-mul (23 + t)) in
         e ∙ sym (lt-ltb o (n + (full + 1) * (23 + t)) (omega (arith, m, a, sum-is, rest)))
     go (past l e) =
         let m : (full + 1) * (23 + t) ≤ (o - n) / (23 + t) * (23 + t) = mul-le-mul-right (23 + t) (omega arith) in

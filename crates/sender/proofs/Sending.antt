@@ -68,7 +68,8 @@ rest-good (suc n) [] ((x ∷ q) ∷ ps) g = rest-good n q ps (g .1)
 
 -- the first start stands behind the begun packet's rest
 first-start : (n i : ℕ) (r : List ℕ) (ps : List (List ℕ)) → AllGood ps
-    → firstFrom i (take n (replicate (length r) false ++ heads ps)) ≡ cond (ltb (length r) (length (take n (r ++ joined ps)))) (i + length r) 255
+    → firstFrom i (take n (replicate (length r) false ++ heads ps)) ≡ cond (ltb (length r) (length (take n (r ++ joined ps))))
+    (i + length r) 255
 first-start zero i r ps g = rw leb·suc-zero
 first-start (suc n) i (x ∷ r) ps g =
     let move : suc i + length r ≡ i + suc (length r) = omega arith in

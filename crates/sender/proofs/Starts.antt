@@ -140,7 +140,8 @@ first-of (suc n) j zero (suc m ∷ ns) s h =
     rw (leb·suc-suc, leb·zero, move)
 
 -- the pointer of the frame of n octets from `at` on
-pub pointer-is : (d ns : List ℕ) (at n : ℕ) {i start : ℕ} → total ns ≡ length d → AllGood (cut d ns) → at + n ≤ length d → First ns at i start
+pub pointer-is : (d ns : List ℕ) (at n : ℕ) {i start : ℕ} → total ns ≡ length d → AllGood (cut d ns) → at + n ≤ length d
+    → First ns at i start
     → pointerTo (start - at) n ≡ firstFrom 0 (take n (drop at (heads (cut d ns))))
 pointer-is d ns at n {i} {start} e g h f =
     let s : Some ns = some-good d ns e g in

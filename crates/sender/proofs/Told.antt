@@ -17,7 +17,8 @@ refusals-tell-nothing (Sent s) h = absurd (true≢false h)
 refusals-tell-nothing (Refused n) h = refl
 
 -- the answer and all that is lent, of an outcome
-pub outcome-apart : (x y : SendAnswer) (l m : Lent) → _≡_ {A = Outcome} (record { answer = told x; lent = l }) (record { answer = told y; lent = m })
+pub outcome-apart : (x y : SendAnswer) (l m : Lent) → _≡_ {A = Outcome} (record { answer = told x; lent = l })
+    (record { answer = told y; lent = m })
     → _≡_ {A = SendAnswer × Lent} (x, l) (y, m)
 outcome-apart x y l m h =
     ap₂ {C = SendAnswer × Lent} (λ a b. (a, b)) (told-apart x y (ap (λ (o : Outcome). o .answer) h)) (ap (λ (o : Outcome). o .lent) h)

@@ -13,7 +13,8 @@ use Rattle.sender.proofs.empty.Kinds as kempty
 use Rattle.sender.proofs.empty.Reads as rempty
 
 -- the answer, and what is lent afterwards
-pub send-fixed : Fixes ksend.ps ksend.r {A = SendAnswer × Lent} rsend.Post (λ κs x s. (x, lent (now (s .1 .1 .1 .1 .1 .1 .1 .0)) (now (s .1 .1 .1 .1 .1 .1 .1 .1 .0))))
+pub send-fixed : Fixes ksend.ps ksend.r {A = SendAnswer × Lent} rsend.Post
+    (λ κs x s. (x, lent (now (s .1 .1 .1 .1 .1 .1 .1 .0)) (now (s .1 .1 .1 .1 .1 .1 .1 .1 .0))))
 send-fixed κs a x y s t p q = outcome-apart x y _ _ (p ∙ sym q)
 
 pub empty-fixed : Fixes kempty.ps kempty.r {A = SendAnswer × List ℕ} rempty.Post (λ κs x s. (x, now (s .1 .1 .1 .1 .0)))

@@ -41,7 +41,8 @@ pub record Frameable (c : Common) (master count : ℕ) (time octets : List ℕ) 
 pub record Framing (c : Common) (master count : ℕ) (time xs : List ℕ) (place : ℕ) (out : List ℕ) (r : ℕ) (out′ : List ℕ) : Type 0 where
   pub answers : r ≡ length xs + leastLength + c .t
   pub leaves :
-      out′ ≡ written (sentOctets (c .t) (framed c time master (record { count = count; pointer = pointerTo place (length xs); octets = xs }))) out
+      out′ ≡ written (sentOctets (c .t) (framed c time master
+      (record { count = count; pointer = pointerTo place (length xs); octets = xs }))) out
 
 -- Refusal 50 by numbers: less than n octets and the frames' own, or fewer lengths than frames.
 abbrev pub tooShort : ℕ → ℕ → ℕ → ℕ → ℕ → Bool

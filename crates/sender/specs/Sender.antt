@@ -58,7 +58,8 @@ abbrev pub piecesOf : ℕ → List Framed → List Piece
 piecesOf v [] = []
 piecesOf v (f ∷ fs) = when (ofChannel v f) (pieceOf f) ++ piecesOf v fs
 
--- Channel v is written by the rules: packets of 16 to 251 octets whose C is their own length less 7, cut by some choices, from some count on.
+-- Channel v is written by the rules: packets of 16 to 251 octets whose C is their own length less 7, cut by some choices, from some count
+-- on.
 pub record Stream (v : ℕ) (frames : List Framed) : Type 0 where
   pub packets : List (List ℕ)
   pub good : AllGood packets

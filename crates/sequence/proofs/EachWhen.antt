@@ -1,22 +1,22 @@
 -- Each answer is given exactly when its line holds.
-use Prim.Native.Nat.{ℕ, zero, suc, _+_, _-_, _≤_, _<_}
+use Prim.Native.Nat.{ℕ, zero, suc, _+_, _-_}
 use native.Mathlib.Omega.{arith}
 use native.Mathlib.Numerals.{add-one}
 use mathlib.Core.Path.{_≡_, refl, sym, ap, _∙_, subst}
 use mathlib.Core.Bool.{Bool, true, false, _||_}
-use mathlib.Core.Logic.{_⊎_, inl, inr, ⊎-elim}
+use mathlib.Core.Logic.{inl, inr, ⊎-elim}
 use mathlib.Core.List.{List}
 use lib.ListN.{length}
 use lib.Dec.{ltb, eqb}
 use borrow.Author.Tests.{lt-ltb, le-ltb, ltb-true, ltb-false, eq-eqb, ne-eqb, eqb-true, eqb-false}
 use Rattle.octets.specs.Numbers.{at}
 use Rattle.octets.specs.Pick.{pick}
-use Rattle.octets.proofs.Choices.{picks, picked, passed}
+use Rattle.octets.proofs.Choices.{picks}
 use Rattle.octets.proofs.Tests.{or-true, or-left, or-right}
-use Rattle.answer.specs.Told.{Told, accept, refuse}
+use Rattle.answer.specs.Told.{Told, accept}
 use Rattle.answer.specs.Refusals.{listShort, entry, countRange}
 use Rattle.counts.specs.Gap.{gap}
-use Rattle.sequence.specs.Sequence.{Between, unknown, restart, missing, restarts, since, Outcome, refused, outcome}
+use Rattle.sequence.specs.Sequence.{Between, restart, missing, restarts, since, Outcome, refused, outcome}
 use Rattle.sequence.specs.Statements.{Passed, Given, short, range, high, first, restarted, followed, EachWhen}
 
 module _ (apid count : ℕ) (list : List ℕ) where
@@ -54,9 +54,11 @@ module _ (apid count : ℕ) (list : List ℕ) where
   one-given =
       picks FitsAll (ltb (length list) 2048) (refused listShort list) _ (λ h. short (ltb-true _ _ h))
       (λ h. picks FitsAll (ltb 2047 apid || ltb 16383 count) (refused countRange list) _
-      (λ r. range (ltb-false _ _ h) (⊎-elim (λ x. inl (ltb-true _ _ x)) (λ x. inr (ltb-true _ _ x)) (or-true (ltb 2047 apid) (ltb 16383 count) r)))
+      (λ r. range (ltb-false _ _ h) (⊎-elim (λ x. inl (ltb-true _ _ x)) (λ x. inr (ltb-true _ _ x))
+      (or-true (ltb 2047 apid) (ltb 16383 count) r)))
       (λ r. picks FitsAll (ltb 16384 (at list apid)) (refused entry list) _
-      (λ q. high (ltb-false _ _ h) (ltb-false _ _ (or-left (ltb 2047 apid) (ltb 16383 count) r)) (ltb-false _ _ (or-right (ltb 2047 apid) (ltb 16383 count) r)) (ltb-true _ _ q))
+      (λ q. high (ltb-false _ _ h) (ltb-false _ _ (or-left (ltb 2047 apid) (ltb 16383 count) r))
+      (ltb-false _ _ (or-right (ltb 2047 apid) (ltb 16383 count) r)) (ltb-true _ _ q))
       (λ q. by-entry (record {
         long = ltb-false _ _ h;
         apids = ltb-false _ _ (or-left (ltb 2047 apid) (ltb 16383 count) r);
@@ -69,7 +71,13 @@ module _ (apid count : ℕ) (list : List ℕ) where
   accepts : Passed apid count list → outcome apid count list .answer ≡ since (at list apid) count
   unfolding outcome pick
   accepts w =
-      rw (le-ltb (length list) 2048 (w .long), le-ltb 2047 apid (w .apids), le-ltb 16383 count (w .counts), le-ltb 16384 (at list apid) (w .entry))
+      rw (
+        le-ltb (length list) 2048 (w .long),
+        le-ltb 2047 apid (w .apids),
+        le-ltb 16383 count (w .counts),
+        le-ltb 16384 (at list apid)
+            (w .entry),
+      )
 
   ored : (b : Bool) → (b || true) ≡ true
   ored true = refl

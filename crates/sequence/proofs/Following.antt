@@ -1,7 +1,7 @@
 -- The entry that an accepted call leaves tells its count to the next one.
 use Prim.Native.Nat.{ℕ, _+_, _≤_}
 use native.Mathlib.Omega.{arith}
-use mathlib.Core.Path.{_≡_, refl, sym, ap, subst, _∙_}
+use mathlib.Core.Path.{_≡_, refl, sym, ap, _∙_}
 use mathlib.Core.Bool.{true, true≢false, _||_}
 use mathlib.Core.List.{List}
 use lib.ListN.{length, set, length-set}
@@ -11,8 +11,7 @@ use borrow.Author.Tests.{ltb-false}
 use Rattle.octets.specs.Numbers.{at}
 use Rattle.octets.proofs.Choices.{picks}
 use Rattle.octets.proofs.Tests.{or-left, or-right}
-use Rattle.answer.specs.Told.{Told}
-use Rattle.sequence.specs.Sequence.{Between, Outcome, outcome}
+use Rattle.sequence.specs.Sequence.{Outcome, outcome}
 use Rattle.sequence.specs.Statements.{Passed}
 use Rattle.sequence.specs.Following.{betweenCounts, NextTellsGap}
 use Rattle.sequence.proofs.EachWhen.{later}

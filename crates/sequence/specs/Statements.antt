@@ -1,5 +1,5 @@
 -- When each answer is given, for every list, APID and count.
-use Prim.Native.Nat.{ℕ, _+_, _-_, _≤_, _<_}
+use Prim.Native.Nat.{ℕ, _+_, _≤_, _<_}
 use mathlib.Core.Path.{_≡_}
 use mathlib.Core.Logic.{_⊎_}
 use mathlib.Core.List.{List}
@@ -23,7 +23,8 @@ pub data Given (apid count : ℕ) (list : List ℕ) : Told Between → Type 0 wh
   range : entries ≤ length list → (2047 < apid) ⊎ (16383 < count) → Given apid count list (refuse (missing 0) countRange)
   high : entries ≤ length list → apid ≤ 2047 → count ≤ 16383 → 16384 < at list apid → Given apid count list (refuse (missing 0) entry)
   first : Passed apid count list → at list apid ≡ 0 → Given apid count list (accept unknown)
-  restarted : Passed apid count list → (last : ℕ) → at list apid ≡ last + 1 → count ≡ 0 → (last ≡ 16383 → ⊥) → Given apid count list (accept restart)
+  restarted : Passed apid count list → (last : ℕ) → at list apid ≡ last + 1 → count ≡ 0 → (last ≡ 16383 → ⊥) → Given apid count list
+      (accept restart)
   followed : Passed apid count list → (last : ℕ) → at list apid ≡ last + 1 → (count ≡ 0 → last ≡ 16383)
       → Given apid count list (accept (missing (gap 16384 count last)))
 

@@ -28,7 +28,8 @@ fn since(count: SequenceCount, entry: u16) -> Gap
     Gap::Missing(count.missing(SequenceCount(last)))
 }
 
-// How many of the APID's packets are missing before this one; the APID's entry becomes count + 1. All else stays, and on a refusal the entry too.
+// How many of the APID's packets are missing before this one; the APID's entry becomes count + 1. All else stays, and on a refusal the
+// entry too.
 pub fn missing(apid: u16, count: SequenceCount, list: &mut [u16]) -> Gap
     ensures { λ r. ⌜ observed r (now (list .exit)) ≡ outcome apid (count .0) (now (list .entry)) ⌝ }
 {

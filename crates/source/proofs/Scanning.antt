@@ -3,8 +3,7 @@ use Prim.Native.Nat.{ℕ}
 use mathlib.Core.Path.{_≡_, refl, sym, ap, _∙_, subst}
 use mathlib.Core.List.{List, [], _∷_, _++_, map}
 use mathlib.Core.Bool.{false}
-use native.Mathlib.Omega.{arith}
-use lib.ListN.{length, drop}
+use lib.ListN.{drop}
 use Rattle.stretch.specs.Stretch.{found}
 use Rattle.recording.specs.Pieces as recording
 use Rattle.recording.specs.Reader as reading
@@ -14,8 +13,8 @@ use Rattle.recording.specs.declared.Reader.the-variants as reader
 use Rattle.recording.specs.declared.Taken.{Taken as Section}
 use Rattle.recording.specs.declared.Taken.the-variants as section
 use Rattle.recording.specs.declared.Scanned.{Scanned as SectionScanned}
-use Rattle.source.specs.Found.{Item, offers, opens, one, joined, isBad, isCut, ofRecording, foundBy, foundIn}
-use Rattle.source.specs.Scan.{takenOf, sectionScanned, scanned, keptBy, Scans, tells, Waits, Told, Finds, ScansFind}
+use Rattle.source.specs.Found.{Item, offers, opens, one, joined, isBad, isCut, ofRecording, foundBy}
+use Rattle.source.specs.Scan.{takenOf, sectionScanned, scanned, keptBy, Scans, tells, Told, Finds, ScansFind}
 use Rattle.source.specs.declared.Source.{Source}
 use Rattle.source.specs.declared.Source.the-variants as source
 use Rattle.source.specs.declared.Taken.{Taken}
@@ -35,10 +34,12 @@ section-scanned a kept w {q} e d = record {
   keeps = refl;
 }
 
-pub section-scans : {s : Source} {a : Reader} {kept w : List ℕ} {q : SectionScanned} {t : Taken} → s ≡ of a → q ≡ reading.scanned a w → t ≡ takenOf (q .taken)
+pub section-scans : {s : Source} {a : Reader} {kept w : List ℕ} {q : SectionScanned} {t : Taken} → s ≡ of a → q ≡ reading.scanned a w
+    → t ≡ takenOf (q .taken)
     → Scans s kept w (record { source = of (q .reader); used = q .used; taken = t }) kept
 section-scans {s} {a} {kept} {w} {q} {t} h e d =
-    subst (λ (x : Source). Scans x kept w (record { source = of (q .reader); used = q .used; taken = t }) kept) (sym h) (section-scanned a kept w e d)
+    subst (λ (x : Source). Scans x kept w (record { source = of (q .reader); used = q .used; taken = t }) kept) (sym h)
+    (section-scanned a kept w e d)
 
 abbrev itemsOf : List ℕ → List (List ℕ) → List Item
 itemsOf ts fs = map opens ts ++ map (λ x. offers (found x)) fs
@@ -54,9 +55,11 @@ going reader.Bad w h = absurd (h refl)
 frame-first : (x : List ℕ) (fs : List (List ℕ)) {ts : List ℕ} → ts ≡ [] → itemsOf ts (x ∷ fs) ≡ offers (found x) ∷ itemsOf ts fs
 frame-first x fs h = ap (λ (ts : List ℕ). itemsOf ts (x ∷ fs)) h ∙ sym (ap (λ (ts : List ℕ). offers (found x) ∷ itemsOf ts fs) h)
 
-after-frame : (x : List ℕ) (f : recording.Found) → f .t ≡ [] → ofRecording (recording.joined (record { t = []; frames = x ∷ []; state = recording.bad }) f) ≡ joined (one (offers (found x))) (ofRecording f)
+after-frame : (x : List ℕ) (f : recording.Found) → f .t ≡ [] → ofRecording
+    (recording.joined (record { t = []; frames = x ∷ []; state = recording.bad }) f) ≡ joined (one (offers (found x))) (ofRecording f)
 unfolding ofRecording
-after-frame x f h = ap (λ (l : List Item). record { items = l; bad = isBad (f .state); cut = isCut (f .state) }) (frame-first x (f .frames) h)
+after-frame x f h =
+    ap (λ (l : List Item). record { items = l; bad = isBad (f .state); cut = isCut (f .state) }) (frame-first x (f .frames) h)
 
 -- What a recording's reader found is what the source tells, then what is found behind it.
 module _ (a : Reader) (kept w : List ℕ) {q : SectionScanned} (f : reading.Finds a w q) where
@@ -66,7 +69,9 @@ module _ (a : Reader) (kept w : List ℕ) {q : SectionScanned} (f : reading.Find
   -- by the section
   on : {t : Section} → q .taken ≡ t → (a ≡ reader.Bad → ⊥) → (p : List ℕ)
       → foundBy a (w ++ p) ≡ ofRecording (recording.joined (reading.tellsOf t w) (recording.found (reading.stateOf (q .reader) (rest p))))
-  on e good p = going a (w ++ p) good ∙ ap ofRecording (f .next p ∙ ap (λ (t : Section). recording.joined (reading.tellsOf t w) (recording.found (reading.stateOf (q .reader) (rest p)))) e)
+  on e good p =
+      going a (w ++ p) good ∙ ap ofRecording
+      (f .next p ∙ ap (λ (t : Section). recording.joined (reading.tellsOf t w) (recording.found (reading.stateOf (q .reader) (rest p)))) e)
 
   known : {t : Section} → q .taken ≡ t → reading.Told a w q t
   known e = subst (reading.Told a w q) e (f .told)
@@ -76,7 +81,8 @@ module _ (a : Reader) (kept w : List ℕ) {q : SectionScanned} (f : reading.Find
   Law t = (p : List ℕ) → foundBy a (w ++ p) ≡ joined (tells (takenOf t) kept w) (foundBy (q .reader) (rest p))
 
   goes-on : {t : Section} → q .taken ≡ t → reading.Goes a q
-      → ((p : List ℕ) → ofRecording (recording.joined (reading.tellsOf t w) (recording.found (reading.stateOf (q .reader) (rest p)))) ≡ joined (tells (takenOf t) kept w) (ofRecording (recording.found (reading.stateOf (q .reader) (rest p)))))
+      → ((p : List ℕ) → ofRecording (recording.joined (reading.tellsOf t w) (recording.found (reading.stateOf (q .reader) (rest p)))) ≡
+      joined (tells (takenOf t) kept w) (ofRecording (recording.found (reading.stateOf (q .reader) (rest p)))))
       → Law t
   goes-on {t} e g h p = on e (g .before) p ∙ h p ∙ ap (joined (tells (takenOf t) kept w)) (sym (going (q .reader) (rest p) (g .behind)))
 
@@ -85,13 +91,17 @@ module _ (a : Reader) (kept w : List ℕ) {q : SectionScanned} (f : reading.Find
   law (section.Missing n) e p = ap (λ (r : SectionScanned). foundBy (r .reader) (drop (r .used) w ++ p)) (sym (known e .0))
   law section.Bad e p =
       on e (known e .1) p
-      ∙ ap (λ (r : SectionScanned). ofRecording (recording.joined (recording.nothing recording.bad) (recording.found (reading.stateOf (r .reader) (drop (r .used) w ++ p))))) (known e .0)
+      ∙ ap (λ (r : SectionScanned). ofRecording
+      (recording.joined (recording.nothing recording.bad) (recording.found (reading.stateOf (r .reader) (drop (r .used) w ++ p)))))
+      (known e .0)
       ∙ ap (λ (r : SectionScanned). joined (tells taken.Bad kept w) (foundBy (r .reader) (drop (r .used) w ++ p))) (sym (known e .0))
   law section.Over e p =
-      ap (λ (b : Reader). foundBy b (w ++ p)) (known e .1) ∙ ap (λ (r : SectionScanned). foundBy (r .reader) (drop (r .used) w ++ p)) (sym (known e .0))
+      ap (λ (b : Reader). foundBy b (w ++ p)) (known e .1) ∙ ap (λ (r : SectionScanned). foundBy (r .reader) (drop (r .used) w ++ p))
+      (sym (known e .0))
   law (section.Opened t) e p = goes-on e (known e .0) (λ p. refl) p
   law section.Nothing e p = goes-on e (known e) (λ p. refl) p
-  law (section.Here from to) e p = goes-on e (known e .0) (λ p. after-frame _ (recording.found (reading.stateOf (q .reader) (rest p))) (known e .3 (rest p))) p
+  law (section.Here from to) e p =
+      goes-on e (known e .0) (λ p. after-frame _ (recording.found (reading.stateOf (q .reader) (rest p))) (known e .3 (rest p))) p
 
   -- nothing is found yet
   waits : (b : Reader) → (b ≡ reader.Bad → ⊥) → recording.found (reading.stateOf b w) ≡ recording.nothing (reading.stateOf b w)
@@ -107,13 +117,19 @@ module _ (a : Reader) (kept w : List ℕ) {q : SectionScanned} (f : reading.Find
 
   tells-so : (t : Section) → q .taken ≡ t → Told (of a) kept w answer kept (takenOf t)
   tells-so (section.Missing n) e =
-      let k = known e in
-      ((ap (λ (r : SectionScanned). of (r .reader)) (k .0), refl, ap (λ (r : SectionScanned). r .used) (k .0)), record { none = waits a (k .1 .good) (k .1 .none); some = k .1 .some; room = k .1 .room })
+      let k = known e in (
+        (ap (λ (r : SectionScanned). of (r .reader)) (k .0), refl, ap (λ (r : SectionScanned). r .used) (k .0)),
+        record
+            { none = waits a (k .1 .good) (k .1 .none); some = k .1 .some; room = k .1 .room },
+      )
   tells-so section.Bad e =
       (ap (λ (r : SectionScanned). r .used) (known e .0), λ v. ap (λ (r : SectionScanned). foundBy (r .reader) v) (known e .0))
   tells-so section.Over e =
-      let k = known e in
-      ((ap (λ (r : SectionScanned). of (r .reader)) (k .0) ∙ ap of (sym (k .1)), refl, ap (λ (r : SectionScanned). r .used) (k .0)), λ v. ap (λ (b : Reader). foundBy b v) (k .1))
+      let k = known e in (
+        (ap (λ (r : SectionScanned). of (r .reader)) (k .0) ∙ ap of (sym (k .1)), refl, ap (λ (r : SectionScanned). r .used) (k .0)),
+        λ v. ap
+            (λ (b : Reader). foundBy b v) (k .1),
+      )
   tells-so (section.Opened t) e = (known e .0 .some, known e .1)
   tells-so section.Nothing e = known e .some
   tells-so (section.Here from to) e = (known e .0 .some, known e .1, known e .2)

@@ -1,8 +1,7 @@
 -- What a scan of a stream finds, by what its reader finds.
 use Prim.Native.Nat.{ℕ, zero, suc, _≤_, _<_}
 use mathlib.Core.Path.{_≡_, refl, sym, ap, _∙_, subst}
-use mathlib.Core.List.{List, [], _∷_, _++_, map}
-use mathlib.Core.Bool.{false}
+use mathlib.Core.List.{List, [], _∷_, _++_}
 use native.Mathlib.Omega.{arith}
 use lib.ListN.{length, drop}
 use Rattle.stretch.specs.Stretch.{Stretch, told, Fits}
@@ -17,7 +16,7 @@ use Rattle.rawbits.specs.Finding.{toFind, toldOf}
 use Rattle.rawbits.specs.declared.Reader.{Reader as BitsReader}
 use Rattle.rawbits.specs.declared.Scanned.{Scanned as BitsScanned}
 use Rattle.rawbits.proofs.Finding.{scans-find as bits-scans-find}
-use Rattle.source.specs.Found.{Found, offers, joined, ofStream, foundIn, cutAt}
+use Rattle.source.specs.Found.{joined, ofStream, foundIn}
 use Rattle.source.specs.Scan.{stretchTaken, streamTaken, streamScanned, ofKiss, ofBits, scanned, keptBy, Scans, tells, Told, Finds}
 use Rattle.source.specs.declared.Source.{Source}
 use Rattle.source.specs.declared.Source.the-variants as source
@@ -30,7 +29,8 @@ at-hand zero h f = absurd (h refl)
 at-hand (suc n) h f = refl
 
 -- what was told, then what is found behind it
-joins : (f : Stretched) (size : ℕ) (kept w : List ℕ) (xs : List Stretch) → ofStream (told f kept ++ xs) ≡ joined (tells (streamTaken (suc size) f) kept w) (ofStream xs)
+joins : (f : Stretched) (size : ℕ) (kept w : List ℕ) (xs : List Stretch) → ofStream (told f kept ++ xs) ≡ joined
+    (tells (streamTaken (suc size) f) kept w) (ofStream xs)
 unfolding streamTaken
 joins stretched.Nothing size kept w xs = refl
 joins (stretched.Frame n) size kept w xs = refl
@@ -39,7 +39,8 @@ joins (stretched.Refused n) size kept w xs = refl
 -- A stream before a scan that used some octets of a window and after it: what it finds in what is at hand, there and then.
 module _ (s s′ : Source) (kept kept′ : List ℕ) (used : ℕ) (f : Stretched) (here there : List ℕ → List Stretch)
     (before : (v : List ℕ) → foundIn s kept v ≡ ofStream (here v)) (behind : (v : List ℕ) → foundIn s′ kept′ v ≡ ofStream (there v)) where
-  stream-told : (w : List ℕ) (size : ℕ) → 0 < used → Fits f kept′ → Told s kept w (streamScanned s′ used (suc size) f) kept′ (streamTaken (suc size) f)
+  stream-told : (w : List ℕ) (size : ℕ) → 0 < used → Fits f kept′ → Told s kept w (streamScanned s′ used (suc size) f) kept′
+      (streamTaken (suc size) f)
   unfolding streamTaken
   stream-told w size u h = by f refl h
     where
@@ -69,7 +70,8 @@ stream-scans {after = after} {kept} {w} {kept′} {used} {t} f h e k d =
 -- ---- KISS
 
 -- with nothing at hand one octet is missing
-no-kiss-at-hand : (a : KissReader) (kept : List ℕ) → Finds (source.Kiss a) kept [] (scanned (source.Kiss a) kept []) (keptBy (source.Kiss a) kept [])
+no-kiss-at-hand : (a : KissReader) (kept : List ℕ) → Finds (source.Kiss a) kept [] (scanned (source.Kiss a) kept [])
+    (keptBy (source.Kiss a) kept [])
 unfolding scanned keptBy streamTaken kiss.scanned kiss.toFind
 no-kiss-at-hand a kept =
     record {
@@ -78,7 +80,8 @@ no-kiss-at-hand a kept =
       told = ((refl, refl, refl), record { none = refl; some = omega arith; room = omega arith });
     }
 
-pub kiss-finds : (a : KissReader) (kept w : List ℕ) → Finds (source.Kiss a) kept w (scanned (source.Kiss a) kept w) (keptBy (source.Kiss a) kept w)
+pub kiss-finds : (a : KissReader) (kept w : List ℕ) → Finds (source.Kiss a) kept w (scanned (source.Kiss a) kept w)
+    (keptBy (source.Kiss a) kept w)
 unfolding scanned keptBy
 kiss-finds a kept [] = no-kiss-at-hand a kept
 kiss-finds a kept (x ∷ w) =
@@ -94,12 +97,14 @@ pub kiss-scans : {s : Source} {a : KissReader} {kept w kept′ : List ℕ} {q : 
     → Scans s kept w (record { source = source.Kiss (q .reader); used = q .used; taken = t }) kept′
 unfolding scanned keptBy
 kiss-scans {w = w} {q = q} h e d =
-    stream-scans (q .found) h (sym (ap (λ (o : kiss.Outcome). ofKiss o (length w)) e)) (sym (ap (λ (o : kiss.Outcome). o .standing .kept) e)) d
+    stream-scans (q .found) h (sym (ap (λ (o : kiss.Outcome). ofKiss o (length w)) e))
+    (sym (ap (λ (o : kiss.Outcome). o .standing .kept) e)) d
 
 -- ---- raw bits
 
 -- with nothing at hand one octet is missing
-no-bits-at-hand : (a : BitsReader) (kept : List ℕ) → Finds (source.Bits a) kept [] (scanned (source.Bits a) kept []) (keptBy (source.Bits a) kept [])
+no-bits-at-hand : (a : BitsReader) (kept : List ℕ) → Finds (source.Bits a) kept [] (scanned (source.Bits a) kept [])
+    (keptBy (source.Bits a) kept [])
 unfolding scanned keptBy streamTaken rawbits.scanned toldOf
 no-bits-at-hand a kept =
     record {
@@ -108,7 +113,8 @@ no-bits-at-hand a kept =
       told = ((refl, refl, refl), record { none = refl; some = omega arith; room = omega arith });
     }
 
-pub bits-finds : (a : BitsReader) (kept w : List ℕ) → Finds (source.Bits a) kept w (scanned (source.Bits a) kept w) (keptBy (source.Bits a) kept w)
+pub bits-finds : (a : BitsReader) (kept w : List ℕ) → Finds (source.Bits a) kept w (scanned (source.Bits a) kept w)
+    (keptBy (source.Bits a) kept w)
 unfolding scanned keptBy
 bits-finds a kept [] = no-bits-at-hand a kept
 bits-finds a kept (x ∷ w) =
@@ -124,4 +130,5 @@ pub bits-scans : {s : Source} {a : BitsReader} {kept w kept′ : List ℕ} {q : 
     → Scans s kept w (record { source = source.Bits (q .reader); used = q .used; taken = t }) kept′
 unfolding scanned keptBy
 bits-scans {w = w} {q = q} h e d =
-    stream-scans (q .found) h (sym (ap (λ (o : rawbits.Outcome). ofBits o (length w)) e)) (sym (ap (λ (o : rawbits.Outcome). o .standing .kept) e)) d
+    stream-scans (q .found) h (sym (ap (λ (o : rawbits.Outcome). ofBits o (length w)) e))
+    (sym (ap (λ (o : rawbits.Outcome). o .standing .kept) e)) d

@@ -29,7 +29,8 @@ pub bits-fixed : Fixes kbits.ps kbits.r rbits.Post (λ κs x s. x)
 bits-fixed = fixed kbits.ps kbits.r rbits.Post _ _ (λ κs a x s p. p)
 
 -- the answer and the octets kept afterwards
-one-scan : {s : Source} {kept w : List ℕ} {r q : Scanned} {kept₁ kept₂ : List ℕ} → Scans s kept w r kept₁ → Scans s kept w q kept₂ → _≡_ {A = Scanned × List ℕ} (r, kept₁) (q, kept₂)
+one-scan : {s : Source} {kept w : List ℕ} {r q : Scanned} {kept₁ kept₂ : List ℕ} → Scans s kept w r kept₁ → Scans s kept w q kept₂
+    → _≡_ {A = Scanned × List ℕ} (r, kept₁) (q, kept₂)
 one-scan {q = q} {kept₁} a b =
     ap (λ (x : Scanned). (x, kept₁)) (a .answers ∙ sym (b .answers)) ∙ ap (λ (x : List ℕ). (q, x)) (a .keeps ∙ sym (b .keeps))
 

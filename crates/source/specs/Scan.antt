@@ -1,7 +1,7 @@
 -- A scan of a source: what it makes of the octets at hand.
 use Prim.Native.Nat.{ℕ, zero, suc, _+_, _-_, _≤_, _<_}
 use mathlib.Core.Path.{_≡_}
-use mathlib.Core.List.{List, [], _∷_, _++_}
+use mathlib.Core.List.{List, [], _++_}
 use mathlib.Core.Bool.{true, false}
 use lib.ListN.{length, take, drop}
 use Rattle.stretch.specs.Stretch.{found, unread}

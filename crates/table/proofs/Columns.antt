@@ -4,11 +4,11 @@ use native.Mathlib.Nat.{add-zero}
 use native.Mathlib.Decide.{decLt}
 use native.Mathlib.Omega.{arith}
 use mathlib.Core.Path.{_≡_, refl, sym, ap, _∙_}
-use mathlib.Core.Bool.{Bool, true, false, _||_}
-use mathlib.Core.List.{List, [], _∷_, _++_}
-use mathlib.Core.Option.{Option, none, some}
-use lib.ListN.{length, take, drop, getElem?, length-drop}
-use lib.Seq.{getD-drop, drop-drop, drop-nil}
+use mathlib.Core.Bool.{true, false, _||_}
+use mathlib.Core.List.{List, [], _∷_}
+use mathlib.Core.Option.{none, some}
+use lib.ListN.{length, drop, getElem?, length-drop}
+use lib.Seq.{getD-drop, drop-drop}
 use lib.Dec.{eqb, ltb}
 use Rattle.octets.specs.Numbers.{at}
 use Rattle.octets.specs.Parts.{part}

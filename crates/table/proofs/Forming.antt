@@ -2,19 +2,18 @@
 use Prim.Native.Nat.{ℕ, _+_, _-_, _*_, _≤_, _<_, min}
 use native.Mathlib.Omega.{arith}
 use native.Mathlib.Decide.{decLt}
-use mathlib.Core.Path.{_≡_, refl, sym, ap, _∙_}
-use mathlib.Core.Bool.{Bool, true, false, not, _||_}
-use mathlib.Core.List.{List, [], _++_}
+use mathlib.Core.Path.{_≡_, refl, sym, _∙_}
+use mathlib.Core.Bool.{Bool, true, false, not}
+use mathlib.Core.List.{List}
 use lib.ListN.{length, take, drop}
-use lib.Dec.{eqb, ltb}
+use lib.Dec.{eqb}
 use lib.Seq.{take-all, take-length}
 use borrow.Author.Tests.{lt-ltb, le-ltb, ltb-false}
 use Rattle.octets.specs.Parts.{put}
-use Rattle.octets.specs.Pick.{pick}
 use Rattle.octets.proofs.Choices.{picked, passed}
 use Rattle.octets.proofs.Tests.{or-left}
 use Rattle.table.specs.Table.{columnCount, rowCount, fourAt, columnsIn, widthsWrong, badlyFormed}
-use Rattle.table.specs.Form.{mostCounted, headOctets, ready, refused, grown, started}
+use Rattle.table.specs.Form.{mostCounted, ready, refused, grown, started}
 use Rattle.table.specs.declared.Form.{Form}
 
 module _ (head : List ℕ) (size : ℕ) {n : ℕ} (e : n ≡ columnCount head) where
@@ -44,7 +43,8 @@ unfolding badlyFormed
 few-columns head size h = ltb-false _ _ (or-left _ _ h)
 
 -- the check that the calls made: its columns fit an octet
-pub few : {b : Bool} {columns : ℕ} (f : Form) → b ≡ badlyFormed (f .head) (f .length) → b ≡ false → columns ≡ columnCount (f .head) → columns ≤ 32
+pub few : {b : Bool} {columns : ℕ} (f : Form) → b ≡ badlyFormed (f .head) (f .length) → b ≡ false → columns ≡ columnCount (f .head)
+    → columns ≤ 32
 few f d h e = rw e (few-columns (f .head) (f .length) (sym d ∙ h))
 
 pub starts-refused : (f : Form) → badlyFormed (f .head) (f .length) ≡ true → refused (f .head) ≡ started f

@@ -2,19 +2,20 @@
 use Prim.Native.Nat.{ℕ, zero, suc, _+_, _-_, _*_, _≤_, _<_, min}
 use native.Mathlib.Decide.{decLt}
 use native.Mathlib.Omega.{arith}
-use mathlib.Core.Path.{_≡_, refl, sym, ap, _∙_, subst}
-use mathlib.Core.Bool.{Bool, true, false, not, _||_}
+use mathlib.Core.Path.{_≡_, refl, sym, ap, _∙_}
+use mathlib.Core.Bool.{Bool, true, false, _||_}
 use mathlib.Core.List.{List, [], _∷_, _++_, append-nil, append-assoc}
-use lib.ListN.{length, take, drop, replicate, length-append, length-take, length-drop, length-replicate, take-append-drop, List·getD-append, List·getD-eq-default, getD-replicate}
+use lib.ListN.{length, take, drop, replicate, length-append, length-take, length-drop, length-replicate, take-append-drop, List·getD-append}
+use lib.ListN.{List·getD-eq-default, getD-replicate}
 use lib.Seq.{take-all, take-append-le, take-append-add, take-append-seam, drop-append-add, getD-take, getD-drop, getD-append-add}
-use lib.Dec.{eqb, ltb}
-use borrow.Author.Tests.{lt-ltb, le-ltb, ne-eqb}
+use lib.Dec.{eqb}
+use borrow.Author.Tests.{ne-eqb}
 use Rattle.octets.specs.Numbers.{at}
 use Rattle.octets.specs.Parts.{put}
 use Rattle.octets.proofs.Placing.{put-none, put-fits}
 use Rattle.rules.specs.Packets.{joined}
-use Rattle.table.specs.Table.{Column, columnCount, rowCount, fourAt, columnsIn, columnsOf, widthsWrong, badlyFormed}
-use Rattle.table.specs.Form.{headOctets, mostCounted, known, grown, KeepsOn}
+use Rattle.table.specs.Table.{columnCount, rowCount, fourAt, columnsIn, columnsOf, badlyFormed}
+use Rattle.table.specs.Form.{mostCounted, known, grown, KeepsOn}
 use Rattle.table.specs.Calls.{Read}
 use Rattle.table.specs.declared.Form.{Form}
 use Rattle.table.proofs.Columns.{columns-next}
@@ -54,7 +55,8 @@ head-open s piece h =
     let few : min (length s) mostCounted ≡ length s = omega arith in
     let room : length s + (72 - length s) ≡ 72 = omega arith in
     let kept : length (take (72 - length s) piece) ≡ min (72 - length s) (length piece) = length-take (72 - length s) piece in
-    let left : 72 - length s - length (take (72 - length s) piece) ≡ 72 - length (s ++ piece) = omega (arith, kept, length-append s piece) in
+    let left : 72 - length s - length (take (72 - length s) piece) ≡ 72 - length (s ++ piece) = omega
+    (arith, kept, length-append s piece) in
     let fits : length s + length (take (72 - length s) piece) ≤ length (s ++ replicate (72 - length s) 0) =
     omega (arith, kept, length-append s (replicate (72 - length s) 0), length-replicate {A = ℕ} (72 - length s) 0) in
     let front : take 72 (s ++ piece) ≡ s ++ take (72 - length s) piece =
@@ -80,7 +82,8 @@ pub keeps-on : KeepsOn
 keeps-on s piece = keeps-by s piece (decLt _ _)
 
 -- all pieces
-reads : (s : List ℕ) (pieces : List (List ℕ)) (forms : List Form) {f g : Form} → f ≡ known s → Read f pieces forms g → g ≡ known (s ++ joined pieces)
+reads : (s : List ℕ) (pieces : List (List ℕ)) (forms : List Form) {f g : Form} → f ≡ known s → Read f pieces forms g → g ≡ known
+    (s ++ joined pieces)
 reads s [] [] e r = r ∙ e ∙ ap known (sym (append-nil s))
 reads s (p ∷ ps) (n ∷ ns) e r =
     reads (s ++ p) ps ns (r .0 ∙ ap (λ (x : Form). grown x p) e ∙ keeps-on s p) (r .1) ∙ ap known (append-assoc s p (joined ps))
@@ -94,7 +97,8 @@ all-read pieces forms g r = reads [] pieces forms refl r
 abbrev pub headOf : List ℕ → List ℕ
 headOf t = known t .head
 
-kept-at : (m : ℕ) (t : List ℕ) (i : ℕ) → i < m → Dec (length t < m) → Dec (i < length t) → at (take m t ++ replicate (m - length t) 0) i ≡ at t i
+kept-at : (m : ℕ) (t : List ℕ) (i : ℕ) → i < m → Dec (length t < m) → Dec (i < length t) → at
+    (take m t ++ replicate (m - length t) 0) i ≡ at t i
 kept-at m t i h (no l) j =
     let none : m - length t ≡ 0 = omega (arith, l) in
     rw (none, append-nil) (getD-take m t i 0 h)
@@ -128,7 +132,8 @@ module _ (t : List ℕ) where
   head-length = kept-length 72 t
 
 -- columns are read octet by octet
-columns-same : (n : ℕ) (s t : List ℕ) → 2 * n ≤ length s → 2 * n ≤ length t → ((i : ℕ) → i < 2 * n → at s i ≡ at t i) → columnsIn n s ≡ columnsIn n t
+columns-same : (n : ℕ) (s t : List ℕ) → 2 * n ≤ length s → 2 * n ≤ length t → ((i : ℕ) → i < 2 * n → at s i ≡ at t i)
+    → columnsIn n s ≡ columnsIn n t
 columns-same zero s t k l e = refl
 columns-same (suc n) s t k l e =
     columns-next n s (omega arith)
@@ -168,7 +173,8 @@ module _ (t : List ℕ) (o : (i : ℕ) → at t i < 256) where
     pub same-columns : 4 + 2 * columnCount t ≤ length t → columnsOf (headOf t) ≡ columnsOf t
     same-columns l =
         rw (same-count t)
-        (columns-same (columnCount t) (drop 4 (headOf t)) (drop 4 t) (simp length-drop (omega (arith, head-length t))) (simp length-drop (omega arith))
+        (columns-same (columnCount t) (drop 4 (headOf t)) (drop 4 t) (simp length-drop (omega (arith, head-length t)))
+        (simp length-drop (omega arith))
         (λ i h. getD-drop 4 (headOf t) i 0 ∙ same-at t (4 + i) (omega arith) ∙ sym (getD-drop 4 t i 0)))
 
   same-by : Dec (32 < columnCount t) → Dec (length t < 4 + 2 * columnCount t)
@@ -180,7 +186,13 @@ module _ (t : List ℕ) (o : (i : ℕ) → at t i < 256) where
   same-by (no h) (no l) =
       let few : columnCount t ≤ 32 = omega (arith, h) in
       let small : 8 + 2 * columnCount t + 17 * rowCount t < mostCounted = omega (arith, h, four-small t o (4 + 2 * columnCount t)) in
-      rw (same-columns few (omega (arith, l)), same-rows few, same-count t, capped (length t) (8 + 2 * columnCount t + 17 * rowCount t) small (decLt _ _))
+      rw (
+        same-columns few (omega (arith, l)),
+        same-rows few,
+        same-count t,
+        capped (length t)
+            (8 + 2 * columnCount t + 17 * rowCount t) small (decLt _ _),
+      )
 
   pub same-form : badlyFormed (headOf t) (known t .length) ≡ badlyFormed t (length t)
   unfolding known

@@ -1,17 +1,17 @@
 -- Rows looked at one after another.
-use Prim.Native.Nat.{ℕ, zero, suc, _+_, _-_, _/_, _≤_, _<_}
+use Prim.Native.Nat.{ℕ, suc, _+_, _-_, _/_, _≤_, _<_}
 use native.Mathlib.Nat.{sub-zero}
 use native.Mathlib.Omega.{arith}
-use mathlib.Core.Path.{_≡_, refl, sym, ap, _∙_}
-use mathlib.Core.Bool.{Bool, true, false, not}
+use mathlib.Core.Path.{_≡_, sym, ap, _∙_}
+use mathlib.Core.Bool.{true, false, not}
 use mathlib.Core.List.{List, [], _∷_}
-use mathlib.Core.Option.{Option, none, some}
+use mathlib.Core.Option.{none}
 use lib.ListN.{length, take, drop, length-drop}
 use lib.Seq.{drop-drop, take-all}
 use borrow.Author.Tests.{le-leb, lt-leb, lt-ltb, le-ltb, eq-eqb, ne-eqb, not-true, not-false}
 use Rattle.octets.specs.Pick.{pick}
 use Rattle.rules.specs.Channel.{Handed}
-use Rattle.table.specs.Table.{Row, rowOctets, rowIn, rowsIn}
+use Rattle.table.specs.Table.{Row, rowIn, rowsIn}
 use Rattle.table.specs.Look.{atHand, reasonAt, behindRow, behindPacket, left, along, illFormed, looked, ended}
 use Rattle.table.specs.declared.Verdict.the-variants.{Passes, Faulty}
 use Rattle.table.specs.declared.Check.{Check}

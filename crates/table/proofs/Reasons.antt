@@ -1,13 +1,12 @@
 -- Laws of the first reason against a row.
-use Prim.Native.Nat.{ℕ, _+_, _-_, _*_, _≤_, _<_}
-use native.Mathlib.Omega.{arith}
+use Prim.Native.Nat.{ℕ, _+_, _*_, _≤_, _<_}
 use mathlib.Core.Path.{_≡_, refl, sym, ap, _∙_, subst}
 use mathlib.Core.Bool.{Bool, true, false, not, _||_}
-use mathlib.Core.List.{List, []}
+use mathlib.Core.List.{List}
 use mathlib.Core.Option.{Option, none, some}
-use mathlib.Core.Logic.{_⊎_, inl, inr, ⊎-elim}
+use mathlib.Core.Logic.{⊎-elim}
 use lib.ListN.{length, drop, getElem?}
-use lib.Dec.{eqb, ltb}
+use lib.Dec.{eqb}
 use borrow.Author.Tests.{lt-ltb, le-ltb, eq-eqb, ne-eqb, not-false, not-true, eqb-true, eqb-false}
 use Rattle.octets.specs.Numbers.{at}
 use Rattle.octets.specs.Parts.{part}
@@ -87,7 +86,8 @@ module _ (c : Check) (h : Handed) (r : Row) {n : ℕ} (e : n ≡ r .packet) (o :
   this : n ≡ c .number → some h ≡ atHand c h r
   this d = picked _ _ _ (eq-eqb _ _ (sym e ∙ d))
 
-  pub elsewhere : {b : Bool} → b ≡ readPacket (h .packet) .accepted → (not (eqb n (c .number)) || not b) ≡ true → 72 ≡ reasonAt c (atHand c h r) r
+  pub elsewhere : {b : Bool} → b ≡ readPacket (h .packet) .accepted → (not (eqb n (c .number)) || not b) ≡ true → 72 ≡ reasonAt c
+      (atHand c h r) r
   elsewhere a t =
       ⊎-elim
       (λ p. subst (λ (x : Option Handed). 72 ≡ reasonAt c x r) (other (eqb-false _ _ (not-true _ p))) (ordered none (no-packet r _)))

@@ -1,24 +1,24 @@
 -- The verdict in facts: a row has no fault exactly if it is right.
-use Prim.Native.Nat.{ℕ, zero, suc, _+_, _-_, _*_, _≤_, _<_}
+use Prim.Native.Nat.{ℕ, zero, suc, _+_, _-_, _≤_}
 use native.Mathlib.Omega.{arith}
 use mathlib.Core.Path.{_≡_, refl, sym, ap, _∙_, subst}
-use mathlib.Core.Bool.{Bool, true, false, not, _||_, _&&_, true≢false}
+use mathlib.Core.Bool.{Bool, true, false, _||_, true≢false}
 use mathlib.Core.List.{List, [], _∷_, _++_}
 use mathlib.Core.Option.{Option, none, some}
 use lib.ListN.{length, replicate, getElem?}
 use lib.Dec.{eqb, ltb, leb}
-use borrow.Author.Tests.{le-ltb, le-leb, eq-eqb, ne-eqb, ltb-false, leb-true, eqb-true, eqb-false, not-false, not-true}
+use borrow.Author.Tests.{le-ltb, le-leb, eq-eqb, ne-eqb, ltb-false, leb-true, eqb-true, eqb-false, not-false}
 use Rattle.octets.specs.Parts.{part}
 use Rattle.octets.specs.Pick.{pick}
 use Rattle.octets.specs.Same.{same}
-use Rattle.octets.proofs.Choices.{picked, passed, not-picked}
+use Rattle.octets.proofs.Choices.{not-picked}
 use Rattle.octets.proofs.Comparing.{same-is-equal}
 use Rattle.octets.proofs.Tests.{or-left, or-right, and-true-left, and-true-right}
-use Rattle.packet.specs.Packet.{readPacket}
 use Rattle.rules.specs.Channel.{Handed}
-use Rattle.table.specs.Table.{Column, Row, columnCount, rowCount, rowsFrom, columnsOf, rowsOf, widthsWrong, badlyFormed, numbered, stands, against, fault, firstFault, verdict}
-use Rattle.table.specs.Statements.{Stands, Right, AllRight, WidthsRight, WellFormed, PassesExactly, Exactly, lastOf, First, whole, row, FaultsFirst}
-use Rattle.table.specs.declared.Verdict.{Verdict}
+use Rattle.table.specs.Table.{Column, Row, columnCount, columnsOf, rowsOf, widthsWrong, badlyFormed, numbered}
+use Rattle.table.specs.Table.{stands, against, fault, firstFault, verdict}
+use Rattle.table.specs.Statements.{Stands, Right, AllRight, WidthsRight, WellFormed, PassesExactly, Exactly, lastOf, First, whole}
+use Rattle.table.specs.Statements.{row, FaultsFirst}
 use Rattle.table.specs.declared.Verdict.the-variants.{Passes, Faulty}
 use Rattle.table.proofs.Forming.{few-columns}
 use Rattle.table.proofs.Verdicts.{sized}
@@ -26,21 +26,31 @@ use Rattle.table.proofs.Verdicts.{sized}
 module _ (c : Column) (packet value : List ℕ) where
   stands-so : Stands c packet value → stands c packet value ≡ true
   unfolding stands
-  stands-so s = simp (le-leb _ _ (s .inside), same-is-equal value (replicate (8 - c .width) 0 ++ part packet (c .offset) (c .width)) .1 (s .same))
+  stands-so s =
+      simp (le-leb _ _ (s .inside), same-is-equal value (replicate (8 - c .width) 0 ++ part packet (c .offset) (c .width)) .1 (s .same))
 
   so-stands : stands c packet value ≡ true → Stands c packet value
   unfolding stands
   so-stands h =
       record {
         inside = leb-true _ _ (and-true-left _ _ h);
-        same = same-is-equal value (replicate (8 - c .width) 0 ++ part packet (c .offset) (c .width)) .0 (and-true-right (leb (c .offset + c .width) (length packet)) _ h);
+        same = same-is-equal value (replicate (8 - c .width) 0 ++ part packet (c .offset) (c .width)) .0
+            (and-true-right (leb (c .offset + c .width) (length packet)) _ h);
       }
 
 module _ (columns : List Column) (packets : List Handed) where
   pub no-fault : (before : ℕ) (r : Row) → Right columns packets before r → fault columns packets before r ≡ 0
   unfolding fault against pick
   no-fault before r f =
-      simp (le-ltb _ _ (f .order), f .such, f .exists, f .accepted, stands-so (f .column) (f .handed .packet) (r .value) (f .value), le-ltb _ _ (f .claim))
+      simp (
+        le-ltb _ _ (f .order),
+        f .such,
+        f .exists,
+        f .accepted,
+        stands-so (f .column) (f .handed .packet) (r .value)
+            (f .value),
+        le-ltb _ _ (f .claim),
+      )
 
   is-right : (before : ℕ) (r : Row) → before ≤ r .packet → (y : Option Column) → getElem? columns (r .column) ≡ y
       → (z : Option Handed) → numbered packets (r .packet) ≡ z → against r y z ≡ 0 → Right columns packets before r
@@ -126,7 +136,8 @@ module _ (columns : List Column) (packets : List Handed) where
       one : suc n ≡ suc (n + 0)
       one = omega arith
 
-  finds : (n before : ℕ) (rs : List Row) {k m : ℕ} → firstFault columns packets n before rs ≡ Faulty k m → Found columns packets n before rs k m
+  finds : (n before : ℕ) (rs : List Row) {k m : ℕ} → firstFault columns packets n before rs ≡ Faulty k m
+      → Found columns packets n before rs k m
   unfolding firstFault
   finds n before [] h = let z : _≡_ {A = ℕ} 0 1 = cc in absurd (omega arith)
   finds n before (r ∷ rs) h = finds-by n before r rs (eqb (fault columns packets before r) 0) refl h (λ g. finds (suc n) (r .packet) rs g)
@@ -137,8 +148,12 @@ unfolding widthsWrong
 widths-right [] h = tt
 widths-right (c ∷ cs) h =
     let w = or-left (eqb (c .width) 0 || ltb 8 (c .width)) (widthsWrong cs) h in
-    let some : c .width ≡ 0 → ⊥ = eqb-false _ _ (or-left (eqb (c .width) 0) (ltb 8 (c .width)) w) in
-    (some-width (c .width) some, ltb-false _ _ (or-right (eqb (c .width) 0) (ltb 8 (c .width)) w), widths-right cs (or-right (eqb (c .width) 0 || ltb 8 (c .width)) (widthsWrong cs) h))
+    let some : c .width ≡ 0 → ⊥ = eqb-false _ _ (or-left (eqb (c .width) 0) (ltb 8 (c .width)) w) in (
+      some-width (c .width) some,
+      ltb-false _ _ (or-right (eqb (c .width) 0) (ltb 8 (c .width)) w),
+      widths-right cs
+          (or-right (eqb (c .width) 0 || ltb 8 (c .width)) (widthsWrong cs) h),
+    )
   where
     some-width : (n : ℕ) → (n ≡ 0 → ⊥) → 1 ≤ n
     some-width zero h = absurd (h refl)

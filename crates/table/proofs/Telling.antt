@@ -5,14 +5,14 @@ use native.Mathlib.Numerals.{add-one}
 use native.Mathlib.Omega.{arith}
 use mathlib.Core.Path.{_≡_, refl, sym, ap, _∙_, subst}
 use mathlib.Core.Bool.{Bool, true, false, not}
-use mathlib.Core.Logic.{_⊎_, inl, inr, ⊎-elim}
+use mathlib.Core.Logic.{_⊎_, ⊎-elim}
 use mathlib.Core.List.{List, [], _∷_, _++_, append-nil, append-assoc}
 use mathlib.Core.Option.{Option, none, some}
 use native.Mathlib.Nat.{zero-add, suc-add, sub-zero}
 use lib.ListN.{length, take, drop, getElem?, length-append, length-drop, List·getD-append}
 use lib.Seq.{drop-append-le, take-append-le, drop-drop}
-use lib.Dec.{ltb, eqb}
-use borrow.Author.Tests.{lt-ltb, le-ltb, eq-eqb, ne-eqb, ltb-false}
+use lib.Dec.{ltb}
+use borrow.Author.Tests.{le-ltb, eq-eqb, ne-eqb, ltb-false}
 use Rattle.octets.specs.Numbers.{at}
 use Rattle.octets.specs.Parts.{part}
 use Rattle.octets.specs.Pick.{pick}
@@ -21,7 +21,7 @@ use Rattle.octets.proofs.Placing.{part-some}
 use Rattle.rules.specs.Channel.{Handed}
 use Rattle.table.specs.Table.{Column, Row, rowIn, rowsIn, numbered, against, fault, firstFault}
 use Rattle.table.specs.Form.{columnsHeld}
-use Rattle.table.specs.Look.{atHand, reasonAt, behindRow, behindPacket, left, along, handed, illFormed, looked, ended}
+use Rattle.table.specs.Look.{atHand, reasonAt, behindRow, behindPacket, left, along, handed, looked, ended}
 use Rattle.table.specs.Calls.{Window, Tells, says, goes, waits, ends}
 use Rattle.table.specs.declared.Verdict.{Verdict}
 use Rattle.table.specs.declared.Verdict.the-variants.{Passes, Faulty}
@@ -99,14 +99,16 @@ module _ (cs : List Column) (all : List Handed) where
   unfolding firstFault
   same-still i m n r rs k l = simp (same-fault m n r k l)
 
-  module _ (c : Check) (done : List Handed) (h : Handed) (hs : List Handed) (r : Row) (rs : List Row) (f : Fits cs all c done (h ∷ hs) (r ∷ rs)) where
+  module _ (c : Check) (done : List Handed) (h : Handed) (hs : List Handed) (r : Row) (rs : List Row)
+      (f : Fits cs all c done (h ∷ hs) (r ∷ rs)) where
     this : Handed
     this = handed (h .packet) (h .arrival)
 
     at-hand : (y : Option Column) → c .least ≤ r .packet → r .packet ≤ c .number → Dec (r .packet < c .number)
         → against r y (atHand c (handed (h .packet) (h .arrival)) r) ≡ against r y (numbered all (r .packet))
     at-hand y o l (yes m) =
-        let other : none ≡ atHand c (handed (h .packet) (h .arrival)) r = passed _ _ _ _ (ne-eqb (r .packet) (c .number) (λ e. omega (arith, e))) refl in
+        let other : none ≡ atHand c (handed (h .packet) (h .arrival)) r = passed _ _ _ _
+        (ne-eqb (r .packet) (c .number) (λ e. omega (arith, e))) refl in
         ap (against r y) (sym other ∙ ap (numbered all) (sym (f .past (r .packet) o m)))
     at-hand y o l (no m) =
         let e : r .packet ≡ c .number = omega (arith, m) in
@@ -173,24 +175,29 @@ module _ (cs : List Column) (all : List Handed) where
         }
 
 -- A look from c, with the rows R left, moved on to l.
-pub record Moved (cs : List Column) (all : List Handed) (c : Check) (rows : List Row) (used : ℕ) (l : Looked) (done hs : List Handed) : Type 0 where
+pub record Moved (cs : List Column) (all : List Handed) (c : Check) (rows : List Row) (used : ℕ) (l : Looked)
+    (done hs : List Handed) : Type 0 where
   pub past : ℕ
   pub octets : l .used ≡ used + 17 * past
   pub verdict : still cs all c rows ≡ still cs all (l .check) (drop past rows)
   pub fits : Fits cs all (l .check) done hs (drop past rows)
 
 -- What is known by what it wants; rs were not at hand.
-abbrev pub After : List Column → List Handed → Check → List Row → ℕ → Looked → List Handed → Handed → List Handed → List Row → Wanted → Type 0
+abbrev pub After : List Column → List Handed → Check → List Row → ℕ → Looked → List Handed → Handed → List Handed → List Row → Wanted
+    → Type 0
 After cs all c rows used l done h hs rs (wanted.Nothing v) = v ≡ still cs all c rows
 After cs all c rows used l done h hs rs wanted.Packet = Moved cs all c rows used l (done ++ h ∷ []) hs
-After cs all c rows used l done h hs rs wanted.Rows = Moved cs all c rows used l done (h ∷ hs) × (l .check .row < l .check .rows) × (l .check .rows ≡ l .check .row + length rs)
+After cs all c rows used l done h hs rs wanted.Rows =
+    Moved cs all c rows used l done (h ∷ hs) × (l .check .row < l .check .rows) × (l .check .rows ≡ l .check .row + length rs)
 
 module _ (cs : List Column) (all : List Handed) (done : List Handed) (h : Handed) (hs : List Handed) where
-  stay : (c : Check) (rows : List Row) (used : ℕ) (w : Wanted) → Fits cs all c done (h ∷ hs) rows → Moved cs all c rows used (left c used w) done (h ∷ hs)
+  stay : (c : Check) (rows : List Row) (used : ℕ) (w : Wanted) → Fits cs all c done (h ∷ hs) rows → Moved cs all c rows used
+      (left c used w) done (h ∷ hs)
   stay c rows used w f = record { past = 0; octets = omega arith; verdict = refl; fits = f }
 
   -- one row more
-  more : (c : Check) (r : Row) (rows : List Row) (used : ℕ) (l : Looked) (ds gs : List Handed) → still cs all c (r ∷ rows) ≡ still cs all (behindRow c r) rows
+  more : (c : Check) (r : Row) (rows : List Row) (used : ℕ) (l : Looked) (ds gs : List Handed) → still cs all c (r ∷ rows) ≡ still cs all
+      (behindRow c r) rows
       → Moved cs all (behindRow c r) rows (used + 17) l ds gs → Moved cs all c (r ∷ rows) used l ds gs
   more c r rows used l ds gs e m =
       record { past = suc (m .past); octets = omega (arith, m .octets); verdict = e ∙ m .verdict; fits = m .fits }
@@ -287,7 +294,8 @@ rows-cut : (m n : ℕ) (s : List ℕ) → rowsIn (m + n) s ≡ rowsIn m s ++ row
 rows-cut zero n s = ap (λ (k : ℕ). rowsIn k s) (zero-add n)
 rows-cut (suc m) n s =
     ap (λ (k : ℕ). rowsIn k s) (suc-add m n)
-    ∙ ap (λ (x : List Row). rowIn s ∷ x) (rows-cut m n (drop 17 s) ∙ ap (λ (x : List ℕ). rowsIn m (drop 17 s) ++ rowsIn n x) (behind-first m s))
+    ∙ ap (λ (x : List Row). rowIn s ∷ x) (rows-cut m n (drop 17 s) ∙ ap (λ (x : List ℕ). rowsIn m (drop 17 s) ++ rowsIn n x)
+    (behind-first m s))
 
 rows-drop : (m n : ℕ) (s : List ℕ) → drop m (rowsIn n s) ≡ rowsIn (n - m) (drop (17 * m) s)
 rows-drop zero n s = ap (λ (k : ℕ). rowsIn k s) (sym (sub-zero n))
@@ -303,7 +311,8 @@ length-rows zero s = refl
 length-rows (suc n) s = ap suc (length-rows n (drop 17 s))
 
 window-rows : (n : ℕ) (rest : List ℕ) (w : Window rest) → 17 * n ≡ length rest
-    → rowsIn n rest ≡ rowsIn (length (w .octets) / 17) (w .octets) ++ rowsIn (n - length (w .octets) / 17) (drop (17 * (length (w .octets) / 17)) rest)
+    → rowsIn n rest ≡ rowsIn (length (w .octets) / 17) (w .octets) ++ rowsIn (n - length (w .octets) / 17)
+    (drop (17 * (length (w .octets) / 17)) rest)
 window-rows n rest w l =
     let m = length (w .octets) / 17 in
     let all : length rest ≡ length (w .octets) + length (w .behind) = ap length (w .cut) ∙ length-append (w .octets) (w .behind) in
@@ -324,7 +333,8 @@ unseen n rest w = rowsIn (n - length (w .octets) / 17) (drop (17 * (length (w .o
 
 module _ (cs : List Column) (all : List Handed) where
   -- a call of look, with n rows left
-  pub look-after : (c : Check) (rest : List ℕ) (n : ℕ) → 17 * n ≡ length rest → (done : List Handed) (h : Handed) (hs : List Handed) (w : Window rest) (l : Looked)
+  pub look-after : (c : Check) (rest : List ℕ) (n : ℕ) → 17 * n ≡ length rest → (done : List Handed) (h : Handed) (hs : List Handed)
+      (w : Window rest) (l : Looked)
       → Fits cs all c done (h ∷ hs) (rowsIn n rest) → l ≡ looked c (w .octets) (handed (h .packet) (h .arrival))
       → After cs all c (rowsIn n rest) 0 l done h hs (unseen n rest w) (l .wanted)
   look-after c rest n len done h hs w l f e =
@@ -332,7 +342,8 @@ module _ (cs : List Column) (all : List Handed) where
       let rs = rowsIn (length (w .octets) / 17) (w .octets) in
       let by = formed-looks c (w .octets) (handed (h .packet) (h .arrival)) (f .formed) in
       subst (λ (x : Looked). After cs all c (rowsIn n rest) 0 x done h hs (unseen n rest w) (x .wanted)) (by ∙ sym e)
-      (subst (λ (rows : List Row). After cs all c rows 0 (on cs all done h hs c 0 rs) done h hs (unseen n rest w) (on cs all done h hs c 0 rs .wanted)) (sym split)
+      (subst (λ (rows : List Row). After cs all c rows 0 (on cs all done h hs c 0 rs) done h hs (unseen n rest w)
+      (on cs all done h hs c 0 rs .wanted)) (sym split)
       (after cs all done h hs rs (unseen n rest w) c 0 (subst (λ (rows : List Row). Fits cs all c done (h ∷ hs) rows) split f)))
 
   -- after it moved on, the octets that it used are dropped
@@ -353,14 +364,16 @@ module _ (cs : List Column) (all : List Handed) where
     left-still = m .verdict ∙ ap (still cs all (l .check)) left-rows
 
   -- at the end no packet is left
-  no-more : (c : Check) (done : List Handed) (rs : List Row) → Fits cs all c done [] rs → (r : Row) → c .least ≤ r .packet → Dec (r .packet < c .number)
+  no-more : (c : Check) (done : List Handed) (rs : List Row) → Fits cs all c done [] rs → (r : Row) → c .least ≤ r .packet → Dec
+      (r .packet < c .number)
       → none ≡ numbered all (r .packet)
   no-more c done rs f r o (yes m) = ap (numbered all) (sym (f .past (r .packet) o m))
   no-more c done rs f r o (no m) =
       let size : length all ≡ length done = ap length (f .place ∙ append-nil done) in
       sym (beyond all (r .packet) (omega (arith, m, size, f .number)))
 
-  same-end : (c : Check) (done : List Handed) (rs : List Row) → Fits cs all c done [] rs → (r : Row) → reasonAt c none r ≡ fault cs all (c .least) r
+  same-end : (c : Check) (done : List Handed) (rs : List Row) → Fits cs all c done [] rs → (r : Row) → reasonAt c none r ≡ fault cs all
+      (c .least) r
   unfolding reasonAt fault
   same-end c done rs f r =
       rw (f .columns)
@@ -368,7 +381,8 @@ module _ (cs : List Column) (all : List Handed) where
       (λ o. ap (against r (getElem? cs (r .column))) (no-more c done rs f r (ltb-false _ _ o) (decLt _ _))))
 
   end-tells : (c : Check) (rest : List ℕ) (n : ℕ) → 17 * n ≡ length rest → (done : List Handed) (w : Window rest)
-      → (17 ≤ length (w .octets)) ⊎ (w .behind ≡ []) → Fits cs all c done [] (rowsIn n rest) → ended c (w .octets) ≡ still cs all c (rowsIn n rest)
+      → (17 ≤ length (w .octets)) ⊎ (w .behind ≡ []) → Fits cs all c done [] (rowsIn n rest) → ended c (w .octets) ≡ still cs all c
+      (rowsIn n rest)
   unfolding firstFault
   end-tells c rest zero len done w z f = sym (ends-all c (w .octets) (ap not (f .formed)) (omega (arith, f .rows)))
   end-tells c rest (suc n) len done w z f =
@@ -382,14 +396,16 @@ module _ (cs : List Column) (all : List Handed) where
       (sym same ∙ ap (reasonAt c none) first))
       ∙ rw (add-one (c .row)) (sym (stops-at cs all (c .row) (c .least) (rowIn rest) (rowsIn n (drop 17 rest)) wrong))
 
-  pub tells : {c : Check} {rest : List ℕ} {packets : List Handed} {v : Verdict} → Tells c rest packets v → (done : List Handed) (n : ℕ) → 17 * n ≡ length rest
+  pub tells : {c : Check} {rest : List ℕ} {packets : List Handed} {v : Verdict} → Tells c rest packets v → (done : List Handed) (n : ℕ)
+      → 17 * n ≡ length rest
       → Fits cs all c done packets (rowsIn n rest) → v ≡ still cs all c (rowsIn n rest)
   tells {c} {rest} (says {h = h} {hs = hs} w l e x) done n len f =
       subst (After cs all c (rowsIn n rest) 0 l done h hs (unseen n rest w)) x (look-after c rest n len done h hs w l f e)
   tells {c} {rest} (goes {h = h} {hs = hs} w l e x t) done n len f =
       let m : Moved cs all c (rowsIn n rest) 0 l (done ++ h ∷ []) hs =
       subst (After cs all c (rowsIn n rest) 0 l done h hs (unseen n rest w)) x (look-after c rest n len done h hs w l f e) in
-      tells t (done ++ h ∷ []) (n - m .past) (left-octets c rest n len l (done ++ h ∷ []) hs m) (left-fits c rest n len l (done ++ h ∷ []) hs m)
+      tells t (done ++ h ∷ []) (n - m .past) (left-octets c rest n len l (done ++ h ∷ []) hs m)
+      (left-fits c rest n len l (done ++ h ∷ []) hs m)
       ∙ sym (left-still c rest n len l (done ++ h ∷ []) hs m)
   tells {c} {rest} (waits {h = h} {hs = hs} w l e x t) done n len f =
       let a = subst (After cs all c (rowsIn n rest) 0 l done h hs (unseen n rest w)) x (look-after c rest n len done h hs w l f e) in

@@ -2,9 +2,9 @@
 use Prim.Native.Nat.{ℕ, zero, suc, _+_, _-_, _≤_, _<_}
 use native.Mathlib.Omega.{arith}
 use mathlib.Core.Path.{_≡_, refl, sym, ap, _∙_}
-use mathlib.Core.Bool.{Bool, true, false}
-use mathlib.Core.List.{List, [], _∷_, _++_, append-nil}
-use lib.ListN.{length, take, drop, replicate, length-append, length-replicate, drop-of-length-le}
+use mathlib.Core.Bool.{Bool, false}
+use mathlib.Core.List.{List, _∷_, _++_, append-nil}
+use lib.ListN.{length, take, drop, replicate, length-append}
 use borrow.Author.Tests.{le-leb, lt-leb}
 use Rattle.octets.specs.Parts.{part, put}
 use Rattle.octets.specs.Same.{same}

@@ -1,24 +1,22 @@
 -- For every table and every list of packets: the verdict that the calls tell, and that they tell one.
-use Prim.Native.Nat.{ℕ, zero, suc, _+_, _-_, _*_, _/_, _≤_, _<_}
-use native.Mathlib.Decide.{decLt}
+use Prim.Native.Nat.{ℕ, suc, _+_, _-_, _*_, _/_, _≤_, _<_}
 use native.Mathlib.Omega.{arith}
 use mathlib.Core.Path.{_≡_, refl, sym, ap, _∙_, subst}
-use mathlib.Core.Bool.{Bool, true, false, not, false≢true}
+use mathlib.Core.Bool.{Bool, true, false, not}
 use mathlib.Core.Logic.{inr}
 use mathlib.Core.List.{List, [], _∷_, _++_, append-nil}
 use lib.ListN.{length, drop, length-drop}
 use lib.Dec.{ltb}
 use borrow.Author.Tests.{eqb-true, not-false}
 use Rattle.octets.specs.Numbers.{at}
-use Rattle.octets.specs.Pick.{pick}
 use Rattle.octets.proofs.Choices.{picked, passed, picks}
-use Rattle.octets.proofs.Tests.{or-left, or-right}
+use Rattle.octets.proofs.Tests.{or-right}
 use Rattle.rules.specs.Channel.{Handed}
-use Rattle.rules.specs.Packets.{joined}
-use Rattle.table.specs.Table.{Column, Row, columnCount, rowCount, rowsFrom, columnsOf, rowsIn, rowsOf, widthsWrong, badlyFormed, firstFault, verdict}
+use Rattle.table.specs.Table.{Column, Row, columnCount, rowCount, rowsFrom, columnsOf, rowsIn, widthsWrong, badlyFormed}
+use Rattle.table.specs.Table.{firstFault, verdict}
 use Rattle.table.specs.Form.{known, ready, refused, started}
-use Rattle.table.specs.Look.{illFormed, behindRow, handed, left, along, looked, ended}
-use Rattle.table.specs.Calls.{Read, Window, Tells, says, goes, waits, ends, TellsVerdict, LooksOn, EachLooksOn, Told, AllTold}
+use Rattle.table.specs.Look.{illFormed, behindRow, handed, along, looked, ended}
+use Rattle.table.specs.Calls.{Window, Tells, says, goes, waits, ends, TellsVerdict, LooksOn, EachLooksOn, AllTold}
 use Rattle.table.specs.declared.Verdict.{Verdict}
 use Rattle.table.specs.declared.Form.{Form}
 use Rattle.table.specs.declared.Check.{Check}
@@ -28,7 +26,7 @@ use Rattle.table.specs.declared.Wanted.the-variants as wanted
 use Rattle.table.proofs.Forming.{few-columns, starts-refused, starts-ready}
 use Rattle.table.proofs.Keeping.{headOf, same-count, same-rows, same-columns, same-form, all-read}
 use Rattle.table.proofs.Looking.{looks-not, ends-not}
-use Rattle.table.proofs.Telling.{Fits, Moved, After, tells, formed-looks, look-after, unseen, left-octets, left-fits, length-rows}
+use Rattle.table.proofs.Telling.{Fits, After, tells, formed-looks, look-after, unseen, left-octets, left-fits, length-rows}
 
 -- of a table that is badly formed
 module _ (c : Check) (n : c .formed ≡ false) where
@@ -74,7 +72,8 @@ module _ (t : List ℕ) (o : (i : ℕ) → at t i < 256) (packets : List Handed)
           number = refl;
         }
 
-    good-verdict : firstFault (columnsOf t) packets 0 0 (rowsIn (rowCount t) (drop (rowsFrom (columnCount (headOf t))) t)) ≡ verdict t packets
+    good-verdict : firstFault (columnsOf t) packets 0 0 (rowsIn (rowCount t) (drop (rowsFrom (columnCount (headOf t))) t)) ≡ verdict t
+        packets
     unfolding verdict
     good-verdict = rw (same-count t) (passed _ _ _ _ good refl)
 
@@ -82,7 +81,8 @@ module _ (t : List ℕ) (o : (i : ℕ) → at t i < 256) (packets : List Handed)
       → Tells (started (known t)) (drop (rowsFrom (started (known t) .columns)) t) packets v → v ≡ verdict t packets
   verdict-by true h s = unformed (started (known t)) (ap (λ (c : Check). c .formed) (sym (refused-start h))) s ∙ bad h
   verdict-by false h {v} s =
-      tells (columnsOf t) packets (subst (λ (c : Check). Tells c (drop (rowsFrom (c .columns)) t) packets v) (sym (ready-start h)) s) [] (rowCount t) (rows-left h) (start-fits h)
+      tells (columnsOf t) packets (subst (λ (c : Check). Tells c (drop (rowsFrom (c .columns)) t) packets v) (sym (ready-start h)) s) []
+      (rowCount t) (rows-left h) (start-fits h)
       ∙ good-verdict h
 
 pub tells-verdict : TellsVerdict
@@ -120,21 +120,25 @@ module _ (cs : List Column) (all : List Handed) where
 
       by : ((d : Check) (r : List ℕ) (k : ℕ) → 17 * k ≡ length r → Fits cs all d (done ++ h ∷ []) hs (rowsIn k r) → Has d r hs)
           → (w : Wanted) → looked c rest (handed (h .packet) (h .arrival)) .wanted ≡ w
-          → After cs all c (rowsIn n rest) 0 (looked c rest (handed (h .packet) (h .arrival))) done h hs (unseen n rest (all-at-hand rest)) w
+          → After cs all c (rowsIn n rest) 0 (looked c rest (handed (h .packet) (h .arrival))) done h hs
+          (unseen n rest (all-at-hand rest)) w
           → Has c rest (h ∷ hs)
       by next (wanted.Nothing v) e a = record { verdict = v; tells = says (all-at-hand rest) l refl e }
       by next wanted.Packet e m =
-          let then = next (l .check) (drop (l .used) rest) (n - m .past) (left-octets cs all c rest n len l (done ++ h ∷ []) hs m) (left-fits cs all c rest n len l (done ++ h ∷ []) hs m) in
+          let then = next (l .check) (drop (l .used) rest) (n - m .past) (left-octets cs all c rest n len l (done ++ h ∷ []) hs m)
+          (left-fits cs all c rest n len l (done ++ h ∷ []) hs m) in
           record { verdict = then .verdict; tells = goes (all-at-hand rest) l refl e (then .tells) }
       by next wanted.Rows e a =
           let none : n - length rest / 17 ≡ 0 = omega (arith, len) in
-          let all-seen : length (unseen n rest (all-at-hand rest)) ≡ 0 = length-rows (n - length rest / 17) (drop (17 * (length rest / 17)) rest) ∙ none in
+          let all-seen : length (unseen n rest (all-at-hand rest)) ≡ 0 = length-rows (n - length rest / 17)
+          (drop (17 * (length rest / 17)) rest) ∙ none in
           absurd (omega (arith, a .1, a .2, all-seen))
 
 module _ (t : List ℕ) (o : (i : ℕ) → at t i < 256) (packets : List Handed) where
   has-by : (b : Bool) → badlyFormed t (length t) ≡ b → Has (started (known t)) (drop (rowsFrom (started (known t) .columns)) t) packets
   has-by true h =
-      told-bad (started (known t)) (ap (λ (c : Check). c .formed) (sym (refused-start t o packets h))) (drop (rowsFrom (started (known t) .columns)) t) packets
+      told-bad (started (known t)) (ap (λ (c : Check). c .formed) (sym (refused-start t o packets h)))
+      (drop (rowsFrom (started (known t) .columns)) t) packets
   has-by false h =
       subst (λ (c : Check). Has c (drop (rowsFrom (c .columns)) t) packets) (ready-start t o packets h)
       (told-good (columnsOf t) packets packets (ready (headOf t)) (drop (rowsFrom (columnCount (headOf t))) t) (rowCount t)

@@ -1,5 +1,5 @@
 -- What the calls tell of a table file that is read twice, in pieces of any length: the verdict of Table, and no other.
-use Prim.Native.Nat.{ℕ, _+_, _*_, _≤_, _<_}
+use Prim.Native.Nat.{ℕ, _+_, _≤_, _<_}
 use mathlib.Core.Path.{_≡_}
 use mathlib.Core.Logic.{_⊎_}
 use mathlib.Core.List.{List, [], _∷_, _++_}
@@ -53,7 +53,8 @@ TellsVerdict = (table : List ℕ) (packets : List Handed) (pieces : List (List �
     → Tells (started form) (drop (rowsFrom (started form .columns)) table) packets v
     → v ≡ verdict table packets
 
--- A look uses no more than is at hand, and wants more rows only if no whole row is left there: with a row's octets at hand, each call goes on.
+-- A look uses no more than is at hand, and wants more rows only if no whole row is left there: with a row's octets at hand, each call goes
+-- on.
 pub record LooksOn (c : Check) (octets : List ℕ) (h : Handed) : Type 0 where
   pub inside : looked c octets h .used ≤ length octets
   pub starved : looked c octets h .wanted ≡ wanted.Rows → length octets < looked c octets h .used + rowOctets

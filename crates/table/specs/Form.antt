@@ -1,8 +1,8 @@
 -- The first reading of a table file, in pieces: what is kept of it, and the check that it starts.
-use Prim.Native.Nat.{ℕ, suc, _+_, _-_, min}
+use Prim.Native.Nat.{ℕ, _+_, _-_, min}
 use mathlib.Core.Path.{_≡_}
 use mathlib.Core.Bool.{true, false}
-use mathlib.Core.List.{List, [], _∷_, _++_}
+use mathlib.Core.List.{List, _++_}
 use lib.ListN.{length, take, drop, replicate}
 use Rattle.octets.specs.Parts.{put}
 use Rattle.octets.specs.Pick.{pick}

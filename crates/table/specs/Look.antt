@@ -1,6 +1,5 @@
 -- The second reading: rows looked at beside the packet that was just handed out.
-use Prim.Native.Nat.{ℕ, suc, _+_, _/_}
-use mathlib.Core.Bool.{Bool, not}
+use Prim.Native.Nat.{ℕ, _+_, _/_}
 use mathlib.Core.List.{List, [], _∷_}
 use mathlib.Core.Option.{Option, none, some}
 use lib.ListN.{length, getElem?}
@@ -28,7 +27,16 @@ reasonAt c h r = pick (ltb (r .packet) (c .least)) reason.rowOrder (against r (g
 -- The check behind a row that is right, and behind a packet that no row at hand is about any more.
 abbrev pub behindRow : Check → Row → Check
 behindRow c r =
-    record { formed = c .formed; head = c .head; columns = c .columns; rows = c .rows; row = c .row + 1; least = r .packet; number = c .number }
+    record {
+      formed = c .formed;
+      head = c .head;
+      columns = c .columns;
+      rows = c .rows;
+      row = c .row + 1;
+      least = r .packet;
+      number =
+          c .number;
+    }
 
 abbrev pub behindPacket : Check → Check
 behindPacket c =

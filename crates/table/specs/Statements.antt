@@ -1,7 +1,7 @@
 -- What the verdict means, in facts: the table passes exactly if it is well formed and each row is right; else the first row that is not.
-use Prim.Native.Nat.{ℕ, zero, suc, _+_, _-_, _*_, _≤_}
+use Prim.Native.Nat.{ℕ, suc, _+_, _-_, _*_, _≤_}
 use mathlib.Core.Path.{_≡_}
-use mathlib.Core.Bool.{true, false}
+use mathlib.Core.Bool.{true}
 use mathlib.Core.List.{List, [], _∷_, _++_}
 use mathlib.Core.Option.{some}
 use lib.ListN.{length, replicate, getElem?}
@@ -9,7 +9,8 @@ use Rattle.octets.specs.Parts.{part}
 use Rattle.answer.specs.Refusals as reason
 use Rattle.packet.specs.Packet.{readPacket}
 use Rattle.rules.specs.Channel.{Handed}
-use Rattle.table.specs.Table.{Column, Row, mostColumns, widest, rowOctets, columnCount, rowCount, rowsFrom, columnsOf, rowsOf, badlyFormed, numbered, fault, verdict}
+use Rattle.table.specs.Table.{Column, Row, mostColumns, widest, rowOctets, columnCount, rowCount, rowsFrom, columnsOf, rowsOf}
+use Rattle.table.specs.Table.{numbered, fault, verdict}
 use Rattle.table.specs.declared.Verdict.the-variants.{Passes, Faulty}
 
 -- The octets of a column are there in a packet, with that value.

@@ -21,7 +21,8 @@ module _ (counts : List ℕ) (from i : ℕ) (so-far : nextOf counts from ≡ nex
 
   pub any-here : i < length counts → (at counts i ≡ 0 → ⊥) → i ≡ nextOf counts from
   any-here h n =
-      sym (so-far ∙ here h ∙ ap (λ (k : ℕ). i + k) (sym (passed (eqb (at counts i) 0) (1 + noneBefore (drop (suc i) counts)) 0 0 (ne-eqb _ _ n) refl)) ∙ add-zero i)
+      sym (so-far ∙ here h ∙ ap (λ (k : ℕ). i + k)
+      (sym (passed (eqb (at counts i) 0) (1 + noneBefore (drop (suc i) counts)) 0 0 (ne-eqb _ _ n) refl)) ∙ add-zero i)
 
   pub none-here : i < length counts → at counts i ≡ 0 → nextOf counts from ≡ nextOf counts (i + 1)
   unfolding nextOf

@@ -1,10 +1,9 @@
 -- Laws of a recording that is laid into an output, a frame after another.
-use Prim.Native.Nat.{ℕ, zero, suc, _+_, _-_, _*_, _%_, _≤_, _<_}
+use Prim.Native.Nat.{ℕ, suc, _+_, _-_, _*_, _%_, _≤_, _<_}
 use native.Mathlib.Omega.{arith}
 use native.Mathlib.Numerals.{add-one}
 use mathlib.Core.Path.{_≡_, refl, sym, ap, _∙_, subst}
-use mathlib.Core.Bool.{Bool, true, false}
-use mathlib.Core.List.{List, [], _∷_, _++_, append-nil, append-assoc}
+use mathlib.Core.List.{List, [], _++_, append-nil, append-assoc}
 use lib.ListN.{length, take, drop, length-append, length-drop, drop-of-length-le}
 use lib.Seq.{drop-cons, drop-drop, length-take-le, take-all}
 use lib.Dec.{ltb}
@@ -15,7 +14,7 @@ use Rattle.octets.specs.Pick.{pick}
 use Rattle.octets.proofs.Choices.{picked, passed, picks}
 use Rattle.octets.proofs.Placing.{after, put-first, part-some, part-none}
 use Rattle.transmit_recording.specs.Recording.{lostMark, headOf, oneOf, framesOf, recordingOf, behindOf}
-use Rattle.transmit_recording.specs.Laid.{none, tooShort, Lays, LaysOne, LaysFrames}
+use Rattle.transmit_recording.specs.Laid.{none, Lays, LaysOne, LaysFrames}
 
 head-long : (t : ℕ) (frames : List ℕ) → length (headOf t frames) ≡ 9
 unfolding headOf
@@ -61,7 +60,8 @@ module _ (rest : List ℕ) (n : ℕ) (out : List ℕ) (to : ℕ) where
   pub lays-one : n < lostMark → {word octets o₁ o₂ : List ℕ} → word ≡ wordOf n → o₁ ≡ put out to word → octets ≡ part rest 0 n
       → o₂ ≡ put o₁ (to + 2) octets → LaysOne rest n out to (to + 2 + length octets) o₂
   lays-one h {word} {octets} {o₁} {o₂} w p s q =
-      let e : word ++ octets ≡ oneOf rest n = ap (λ (x : List ℕ). x ++ octets) w ∙ ap (λ (x : List ℕ). wordOf n ++ x) s ∙ arrives-one rest n h in
+      let e : word ++ octets ≡ oneOf rest n = ap (λ (x : List ℕ). x ++ octets) w ∙ ap (λ (x : List ℕ). wordOf n ++ x) s
+      ∙ arrives-one rest n h in
       let two : length word ≡ 2 = ap length w in
       let m : length (word ++ octets) ≡ 2 + length octets = length-append word octets ∙ ap (λ (k : ℕ). k + length octets) two in
       let k : length (oneOf rest n) ≡ 2 + length octets = ap length (sym e) ∙ m in
@@ -116,7 +116,8 @@ one-room made from n h =
     let rest : List ℕ = drop from made in
     let m : ℕ = length made in
     let k : ℕ = n % lostMark in
-    picks (λ (x : List ℕ). length x + (m - pick (ltb (m - from) k) m (from + k)) ≤ 2 + (m - from)) (ltb n lostMark) (wordOf n ++ part rest 0 n) []
+    picks (λ (x : List ℕ). length x + (m - pick (ltb (m - from) k) m (from + k)) ≤ 2 + (m - from)) (ltb n lostMark)
+    (wordOf n ++ part rest 0 n) []
     (λ a.
     let s : n % lostMark ≡ n = small n (ltb-true n lostMark a) in
     picks (λ (x : ℕ). length (wordOf n ++ part rest 0 n) + (m - x) ≤ 2 + (m - from)) (ltb (m - from) k) m (from + k)
@@ -124,9 +125,11 @@ one-room made from n h =
     (λ e.
     let f : k ≤ m - from = ltb-false (m - from) k e in
     let l : length (part rest 0 n) ≡ n = part-many rest n (omega (arith, f, d, s)) in omega (arith, l, f, s)))
-    (λ _. picks (λ (x : ℕ). length {A = ℕ} [] + (m - x) ≤ 2 + (m - from)) (ltb (m - from) k) m (from + k) (λ _. omega arith) (λ _. omega arith))
+    (λ _. picks (λ (x : ℕ). length {A = ℕ} [] + (m - x) ≤ 2 + (m - from)) (ltb (m - from) k) m (from + k) (λ _. omega arith)
+    (λ _. omega arith))
 
--- ---- all frames: i of them stand up to index `to` of the output, as front, and the octets of the others are those made from index `from` on
+-- ---- all frames: i of them stand up to index `to` of the output, as front, and the octets of the others are those made from index `from`
+-- on
 
 pub record Laid (made frames out : List ℕ) (to from i : ℕ) (now : List ℕ) : Type 0 where
   pub inside : from ≤ length made
@@ -170,7 +173,8 @@ module _ (made frames out : List ℕ) where
         ∙ ap (λ (k : ℕ). oneOf (drop from made) n ++ framesOf (drop (behindOf from n (length made)) made) (drop k frames)) (sym (add-one i))
 
     pub one-laid : i < length frames → {n r from′ : ℕ} {now′ : List ℕ} → n ≡ at frames i
-        → LaysOne (take (length made - from) (drop from made)) n now to r now′ → from′ ≡ behindOf from n (length made) → length now′ ≡ length now → Laid made frames out r from′ (i + 1) now′
+        → LaysOne (take (length made - from) (drop from made)) n now to r now′ → from′ ≡ behindOf from n (length made)
+        → length now′ ≡ length now → Laid made frames out r from′ (i + 1) now′
     one-laid l {n} {r} {from′} {now′} e y b k =
         let x : LaysOne (drop from made) n now to r now′ = subst (λ (v : List ℕ). LaysOne v n now to r now′) behind-all y in
         let one : List ℕ = oneOf (drop from made) n in
@@ -186,7 +190,8 @@ module _ (made frames out : List ℕ) where
           long = omega (arith, x .behind, a .long, length-append (a .front) one);
           rest = append-assoc (a .front) one _ ∙ ap (λ (v : List ℕ). a .front ++ v) (sym f) ∙ a .rest;
           adds = λ d o p q.
-              let w : length out ≡ 9 + (length o - 9) = ap length p ∙ length-append d (drop (length d) o) ∙ rw (sym q) (ap (λ (j : ℕ). 9 + j) (length-drop 9 o)) in
+              let w : length out ≡ 9 + (length o - 9) = ap length p ∙ length-append d (drop (length d) o) ∙ rw (sym q)
+              (ap (λ (j : ℕ). 9 + j) (length-drop 9 o)) in
               let v : length (d ++ a .front) ≡ to = length-append d (a .front) ∙ omega (arith, q, a .long) in
               x .adds (d ++ a .front) o (a .adds d o p q) (sym v) (omega (arith, v, w, m, a .room, l))
               ∙ ap (λ (v : List ℕ). written v o) (append-assoc d (a .front) one);
@@ -194,7 +199,8 @@ module _ (made frames out : List ℕ) where
 
     pub all-laid : length frames ≤ i → LaysFrames made frames out to now
     all-laid l =
-        let e : framesOf (drop from made) (drop i frames) ≡ [] = ap (framesOf (drop from made)) (drop-of-length-le frames l) ∙ no-frames (drop from made) in
+        let e : framesOf (drop from made) (drop i frames) ≡ [] = ap (framesOf (drop from made)) (drop-of-length-le frames l) ∙ no-frames
+        (drop from made) in
         let f : a .front ≡ framesOf made frames = sym (append-nil (a .front)) ∙ ap (λ (y : List ℕ). a .front ++ y) (sym e) ∙ a .rest in
         record {
           behind = a .long ∙ ap (λ (y : List ℕ). 9 + length y) f;

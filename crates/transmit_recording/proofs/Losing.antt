@@ -1,5 +1,5 @@
 -- Laws of the frames that a link loses, and of those that arrive.
-use Prim.Native.Nat.{ℕ, zero, suc, _+_, _-_, _%_, _^_, _≤_, _<_}
+use Prim.Native.Nat.{ℕ, suc, _+_, _-_, _%_, _^_, _≤_, _<_}
 use native.Mathlib.Omega.{arith}
 use native.Mathlib.Nat.{zero-add, add-zero}
 use native.Mathlib.Numerals.{add-one}
@@ -9,9 +9,7 @@ use mathlib.Core.List.{List, [], _∷_}
 use lib.ListN.{length, drop, set, drop-of-length-le, List·getD-eq-default}
 use lib.Seq.{drop-cons, drop-drop, getD-drop, set-out}
 use lib.Dec.{eqb, ltb}
-use borrow.Author.Tests.{lt-ltb, le-ltb}
 use Rattle.octets.specs.Numbers.{at, fourOf}
-use Rattle.octets.specs.Pick.{pick}
 use Rattle.octets.proofs.Choices.{picked, passed, picks}
 use Rattle.transmit_recording.specs.Recording.{lostSign, lostAt, lostMark, marked, losing, arrivalsOf, arrivals, headOf}
 
@@ -86,7 +84,8 @@ module _ (frames : List ℕ) (n i : ℕ) (a : Arrived frames n i) where
   pub one-on : i < length frames → {k : ℕ} → k ≡ arrivalsOf (at frames i) → Arrived frames (n + k) (i + 1)
   unfolding arrivals
   one-on l {k} h =
-      let e : arrivals (drop i frames) ≡ arrivalsOf (at frames i) + arrivals (drop (i + 1) frames) = rw (drop-cons frames i 0 l, add-one) refl in
+      let e : arrivals (drop i frames) ≡ arrivalsOf (at frames i) + arrivals (drop (i + 1) frames) = rw
+      (drop-cons frames i 0 l, add-one) refl in
       let m : arrivalsOf (at frames i) ≤ 1 = at-most-1 (at frames i) in
       record { few = omega (arith, a .few, h); rest = omega (arith, a .rest, e, h) }
 

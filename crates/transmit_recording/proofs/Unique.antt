@@ -1,6 +1,5 @@
 -- No second result satisfies a contract of this crate's public functions.
 use Prim.Native.Nat.{ℕ}
-use mathlib.Core.Path.{_≡_, sym, _∙_}
 use mathlib.Core.List.{List}
 use denote.Ref.{now}
 use Rattle.octets.specs.Unique.{Fixes}

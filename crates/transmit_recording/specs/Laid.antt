@@ -25,7 +25,8 @@ pub record Lays (t : ℕ) (made frames out : List ℕ) (r : ℕ) (out′ : List 
 -- One frame behind d, which stands at the start of what o was.
 pub record LaysOne (rest : List ℕ) (n : ℕ) (out : List ℕ) (to r : ℕ) (out′ : List ℕ) : Type 0 where
   pub behind : r ≡ to + length (oneOf rest n)
-  pub adds : (d o : List ℕ) → out ≡ written d o → to ≡ length d → length d + length (oneOf rest n) ≤ length o → out′ ≡ written (d ++ oneOf rest n) o
+  pub adds : (d o : List ℕ) → out ≡ written d o → to ≡ length d → length d + length (oneOf rest n) ≤ length o → out′ ≡ written
+      (d ++ oneOf rest n) o
 
 -- All frames behind d, nine octets that stand at the start of what o was.
 pub record LaysFrames (made frames out : List ℕ) (r : ℕ) (out′ : List ℕ) : Type 0 where

@@ -1,12 +1,12 @@
 -- Laws of the settings, from what the code's calls and tests told.
-use Prim.Native.Nat.{ℕ, zero, suc, _+_, _%_, _^_, _≤_, _<_}
+use Prim.Native.Nat.{ℕ, zero, suc, _%_, _≤_, _<_}
 use native.Mathlib.Nat.{mod-eq-of-lt}
 use native.Mathlib.Omega.{arith}
 use mathlib.Core.Path.{_≡_, refl, sym, ap, _∙_}
 use mathlib.Core.Bool.{Bool, true, false, _||_}
 use mathlib.Core.List.{List, [], _∷_}
 use lib.ListN.{length, getD, set, List·getD-eq-default}
-use lib.Dec.{eqb, ltb}
+use lib.Dec.{ltb}
 use borrow.Author.Tests.{lt-ltb, le-ltb, ltb-false}
 use Rattle.octets.specs.Numbers.{at}
 use Rattle.octets.specs.Pick.{pick}
@@ -17,23 +17,10 @@ use Rattle.frame.specs.declared.Address.{Address}
 use Rattle.sender.specs.declared.Sent.{Sent}
 use Rattle.words.specs.Octets.{hexLeft, hexCount}
 use Rattle.words.specs.Words.{space, wordOf, restOf, numberOf}
-use Rattle.transmit_settings.specs.State.{row, more, withCommon, withCounts, withStamp, withMaster, withMade, countOf, withCount, afterSent, fromSource, toDestination}
-use Rattle.transmit_settings.specs.Setting.{
-  stopped,
-  going,
-  sourceWord,
-  destinationWord,
-  timeWord,
-  upTo,
-  addressOf,
-  addressWrong,
-  setAddress,
-  setTime,
-  setNumber,
-  Set,
-  observed,
-  setting,
-}
+use Rattle.transmit_settings.specs.State.{row, more, withCommon, withCounts, withStamp, withMaster, withMade, countOf, withCount}
+use Rattle.transmit_settings.specs.State.{afterSent, fromSource, toDestination}
+use Rattle.transmit_settings.specs.Setting.{stopped, going, sourceWord, destinationWord, timeWord, upTo, addressOf, addressWrong}
+use Rattle.transmit_settings.specs.Setting.{setAddress, setTime, setNumber, observed, setting}
 use Rattle.transmit_settings.specs.declared.Fault.the-variants.{Nothing, Word, Value}
 use Rattle.transmit_settings.specs.declared.Row.{Row}
 use Rattle.transmit_settings.specs.declared.State.{State}
@@ -79,7 +66,8 @@ sign-there (x ∷ s) (suc i) h = sign-there s i (omega arith)
 pub sign-beyond : (s : List ℕ) (i : ℕ) → length s ≤ i → space ≡ getD s i space
 sign-beyond s i h = sym (List·getD-eq-default s space h)
 
-pub address-is : (s : List ℕ) (ssid : ℕ) {a b c d e f : ℕ} → a ≡ getD s 0 space → b ≡ getD s 1 space → c ≡ getD s 2 space → d ≡ getD s 3 space
+pub address-is : (s : List ℕ) (ssid : ℕ) {a b c d e f : ℕ} → a ≡ getD s 0 space → b ≡ getD s 1 space → c ≡ getD s 2 space
+    → d ≡ getD s 3 space
     → e ≡ getD s 4 space → f ≡ getD s 5 space
     → _≡_ {A = Address} (record { callsign = record { 0 = a; 1 = b; 2 = c; 3 = d; 4 = e; 5 = f }; ssid = ssid }) (addressOf s ssid)
 address-is s ssid p q r t u v = simp (p, q, r, t, u, v)
@@ -106,7 +94,8 @@ module _ (value : List ℕ) {cs rs : List ℕ} {n : ℕ} (p : cs ≡ wordOf valu
 
   pub wrong-is : {b : Bool} → (ltb 6 (length cs) || ltb 255 n) ≡ b → addressWrong value ≡ b
   unfolding addressWrong
-  wrong-is h = sym (ap (λ (x : List ℕ). ltb 6 (length x) || ltb 255 n) p ∙ ap (λ (x : ℕ). ltb 6 (length (wordOf value)) || ltb 255 x) number-is) ∙ h
+  wrong-is h =
+      sym (ap (λ (x : List ℕ). ltb 6 (length x) || ltb 255 n) p ∙ ap (λ (x : ℕ). ltb 6 (length (wordOf value)) || ltb 255 x) number-is) ∙ h
 
   pub given-is : {a : Address} → a ≡ addressOf cs n → a ≡ addressOf (wordOf value) (numberOf (restOf value))
   given-is g = g ∙ ap (λ (x : List ℕ). addressOf x n) p ∙ ap (addressOf (wordOf value)) number-is
@@ -116,7 +105,8 @@ module _ (value : List ℕ) {cs rs : List ℕ} {n : ℕ} (p : cs ≡ wordOf valu
     unfolding setAddress
     no-address h g = g ∙ picked _ _ _ (wrong-is h)
 
-    module _ (h : (ltb 6 (length cs) || ltb 255 n) ≡ false) {a : Address} (g : a ≡ addressOf cs n) {b : Bool} (t : b ≡ same word sourceWord) where
+    module _ (h : (ltb 6 (length cs) || ltb 255 n) ≡ false) {a : Address} (g : a ≡ addressOf cs n) {b : Bool}
+        (t : b ≡ same word sourceWord) where
       pub source-set : b ≡ true → r ≡ going (withCommon s (fromSource (s .common) a)) → r ≡ setAddress s word value
       unfolding setAddress
       source-set k f =

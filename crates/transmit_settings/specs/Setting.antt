@@ -98,7 +98,8 @@ setNumber s word n =
 abbrev pub addressOf : List ℕ → ℕ → Address
 addressOf s ssid =
     record {
-      callsign = record { 0 = getD s 0 space; 1 = getD s 1 space; 2 = getD s 2 space; 3 = getD s 3 space; 4 = getD s 4 space; 5 = getD s 5 space };
+      callsign =
+          record { 0 = getD s 0 space; 1 = getD s 1 space; 2 = getD s 2 space; 3 = getD s 3 space; 4 = getD s 4 space; 5 = getD s 5 space };
       ssid = ssid;
     }
 

@@ -38,7 +38,7 @@ pub struct State {
     pub made: Row,
 }
 
-// What stops a script: a word that is none, a value that is none, too much for the room, or a refusal.
+// What stops a script: an unknown word, a value that the word cannot have, too much for the room, or a refusal.
 pub enum Fault {
     Nothing,
     Word,
@@ -250,7 +250,8 @@ fn number(state: State, word: &[u8], n: usize) -> Stepped
 
 // Sets the time's octets.
 fn time(state: State, value: &[u8], stamp: &mut [u8]) -> Stepped
-    ensures { λ r. ⌜ (r ≡ setTime state (now (value .entry)) (length (now (stamp .entry)))) × (now (stamp .exit) ≡ hexLeft (now (value .entry)) (now (stamp .entry))) ⌝ }
+    ensures { λ r. ⌜ (r ≡ setTime state (now (value .entry)) (length (now (stamp .entry)))) ×
+        (now (stamp .exit) ≡ hexLeft (now (value .entry)) (now (stamp .entry))) ⌝ }
 {
     let n = words::hex(value, stamp);
     let mut next = state;

@@ -188,7 +188,8 @@ makingBehind s line l =
     let i = s .made .octets in
     let o = making s line (lent (l .stamp) (l .packets) (l .lengths) (drop i (l .made)) (l .frames)) in
     pick (ltb (length (l .made)) i) (outcome (stopped s Room) l)
-    (outcome (o .stepped) (lent (o .lent .stamp) (o .lent .packets) (o .lent .lengths) (behind i (l .made) (o .lent .made)) (o .lent .frames)))
+    (outcome (o .stepped) (lent (o .lent .stamp) (o .lent .packets) (o .lent .lengths) (behind i (l .made) (o .lent .made))
+    (o .lent .frames)))
 
 -- Nothing is done of an empty line, and of one that begins with #.
 unfoldable pub stepping : State → List ℕ → Lent → Outcome

@@ -23,11 +23,11 @@ ghost use Rattle.transmit_steps.specs.Step.{
 };
 use counts::ChannelCount;
 use counts::MasterCount;
+use sender::SendAnswer;
 use transmit_settings::Fault;
 use transmit_settings::Row;
 use transmit_settings::State;
 use transmit_settings::Stepped;
-use sender::SendAnswer;
 
 // The longest frame that a recording can hold.
 const LONGEST: usize = 1024;
@@ -181,7 +181,8 @@ fn make(
     out: &mut [u8],
     frames: &mut [u16],
 ) -> Stepped
-    ensures { λ r. ⌜ outcome r (lent (now (stamp .exit)) (now (packets .entry)) (now (lengths .entry)) (now (out .exit)) (now (frames .exit)))
+    ensures { λ r. ⌜ outcome r (lent (now (stamp .exit)) (now (packets .entry)) (now (lengths .entry)) (now (out .exit))
+        (now (frames .exit)))
         ≡ making state (now (line .entry))
         (lent (now (stamp .entry)) (now (packets .entry)) (now (lengths .entry)) (now (out .entry)) (now (frames .entry))) ⌝ }
 {
@@ -224,7 +225,8 @@ pub fn step(
     made: &mut [u8],
     frames: &mut [u16],
 ) -> Stepped
-    ensures { λ r. ⌜ outcome r (lent (now (stamp .exit)) (now (packets .exit)) (now (lengths .exit)) (now (made .exit)) (now (frames .exit)))
+    ensures { λ r. ⌜ outcome r (lent (now (stamp .exit)) (now (packets .exit)) (now (lengths .exit)) (now (made .exit))
+        (now (frames .exit)))
         ≡ stepping state (now (line .entry))
         (lent (now (stamp .entry)) (now (packets .entry)) (now (lengths .entry)) (now (made .entry)) (now (frames .entry))) ⌝ }
 {

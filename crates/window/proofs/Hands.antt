@@ -54,7 +54,8 @@ drop-take (suc m) (suc n) (x ∷ l) = drop-take m n l ∙ ap (λ (k : ℕ). take
 pub hand-behind : (input : List ℕ) (at end used : ℕ) → drop used (hand input at end) ≡ hand input (at + used) end
 hand-behind input at end used =
     let n : end - at - used ≡ end - (at + used) = omega arith in
-    drop-take used (end - at) (drop at input) ∙ ap (λ (k : ℕ). take k (drop used (drop at input))) n ∙ ap (take (end - (at + used))) (drop-drop used at input)
+    drop-take used (end - at) (drop at input) ∙ ap (λ (k : ℕ). take k (drop used (drop at input))) n ∙ ap (take (end - (at + used)))
+    (drop-drop used at input)
 
 -- A read behind the octets at hand, l of them.
 module _ (input : List ℕ) (at end : ℕ) {l : List ℕ} (e : l ≡ hand input at end) where
@@ -75,13 +76,15 @@ module _ (input : List ℕ) (at end : ℕ) {l : List ℕ} (e : l ≡ hand input 
       room = λ f. absurd (true≢false f);
     }
 
-    pub refills : {b′ : List ℕ} {came : ℕ} (failed : Bool) → take (length l) b′ ≡ take (length l) b → length l + came ≤ length b′ → length l < length b′
+    pub refills : {b′ : List ℕ} {came : ℕ} (failed : Bool) → take (length l) b′ ≡ take (length l) b → length l + came ≤ length b′
+        → length l < length b′
         → Refills input at end b′ (record { have = length l + came; came = came; failed = failed; tried = true })
     refills {b′} {came} failed kept inside room = record {
       piece = drop (length l) (take (length l + came) b′);
       window = ap (λ (k : ℕ). take k b′) (sub-zero (length l + came))
           ∙ sym (take-append-drop (length l) (take (length l + came) b′))
-          ∙ ap (λ (x : List ℕ). x ++ drop (length l) (take (length l + came) b′)) (take-take (length l) (length l + came) b′ (omega arith) ∙ kept ∙ at-hand);
+          ∙ ap (λ (x : List ℕ). x ++ drop (length l) (take (length l + came) b′))
+          (take-take (length l) (length l + came) b′ (omega arith) ∙ kept ∙ at-hand);
       many = simp length-drop (omega (arith, length-take-le (length l + came) b′ inside));
       inside = inside;
       tried = refl;
@@ -89,7 +92,8 @@ module _ (input : List ℕ) (at end : ℕ) {l : List ℕ} (e : l ≡ hand input 
     }
 
 -- what was at hand stays
-pub stays : {input : List ℕ} {at end : ℕ} {b : List ℕ} {r : Refilled} → Refills input at end b r → take (r .have - r .came) b ≡ hand input at end
+pub stays : {input : List ℕ} {at end : ℕ} {b : List ℕ} {r : Refilled} → Refills input at end b r → take
+    (r .have - r .came) b ≡ hand input at end
 stays {input} {at} {end} {b} {r} g =
     let h : List ℕ = hand input at end in
     let w : take (r .have) b ≡ h ++ g .piece = ap (λ (k : ℕ). take k b) (sym (sub-zero (r .have))) ∙ g .window in

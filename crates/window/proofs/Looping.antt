@@ -1,10 +1,10 @@
 -- The laws of a loop: none and one more turn, a turn that said stop, and all turns made.
 use Prim.Native.Nat.{ℕ, suc, _+_}
-use mathlib.Core.Path.{_≡_, refl, sym, _∙_, subst}
+use mathlib.Core.Path.{_≡_, sym, _∙_, subst}
 use mathlib.Core.List.{List, [], _++_}
 use mathlib.Core.Bool.{Bool, true, false, true≢false}
 use native.Mathlib.Omega.{arith}
-use Rattle.window.specs.Turns.{Turns, none, more, Made, Loops, most}
+use Rattle.window.specs.Turns.{none, more, Made, Loops, most}
 
 module _ {S : Type 0} {going : S → Bool} {Turn : S → List ℕ → S → Type 0} {s : S} where
   pub at-first : Made going Turn s 0 s

@@ -8,7 +8,8 @@ use native.Mathlib.Nat.{add-comm}
 use lib.ListN.{length, getD, set, take, drop, length-drop}
 use lib.Seq.{take-suc, take-suc-set, drop-set-lt, drop-drop, getD-drop, take-take}
 
-module _ (b₀ b : List ℕ) (at i : ℕ) (inside : at + i < length b₀) (long : length b ≡ length b₀) (moved : take i b ≡ take i (drop at b₀)) (rest : drop i b ≡ drop i b₀) where
+module _ (b₀ b : List ℕ) (at i : ℕ) (inside : at + i < length b₀) (long : length b ≡ length b₀) (moved : take i b ≡ take i (drop at b₀))
+    (rest : drop i b ≡ drop i b₀) where
   octet : getD b (at + i) 0 ≡ getD (drop at b₀) i 0
   octet =
       ap (λ (k : ℕ). getD b k 0) (add-comm at i)

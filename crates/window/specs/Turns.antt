@@ -1,5 +1,5 @@
 -- A program's loop: turns one after another while the last one says to go on, of which each hands octets to a write.
-use Prim.Native.Nat.{ℕ, zero, suc}
+use Prim.Native.Nat.{ℕ, suc}
 use mathlib.Core.Path.{_≡_}
 use mathlib.Core.List.{List, [], _++_}
 use mathlib.Core.Bool.{Bool, true}

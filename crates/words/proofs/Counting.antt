@@ -1,16 +1,15 @@
 -- Laws of reading a number: what the loop has found at each turn, and its ends.
-use Prim.Native.Nat.{ℕ, suc, _+_, _-_, _*_, _≤_, _<_}
+use Prim.Native.Nat.{ℕ, _+_, _-_, _*_, _≤_, _<_}
 use native.Mathlib.Omega.{arith}
 use native.Mathlib.Numerals.{add-one}
 use mathlib.Core.Path.{_≡_, refl, sym, ap, _∙_}
-use mathlib.Core.Bool.{Bool, true, false, _||_}
+use mathlib.Core.Bool.{true, false}
 use mathlib.Core.List.{List, [], _∷_}
 use lib.ListN.{length, drop, drop-of-length-le}
 use lib.Seq.{drop-cons}
-use lib.Dec.{eqb, ltb}
+use lib.Dec.{ltb}
 use borrow.Author.Tests.{lt-ltb, le-ltb, ne-eqb, eq-eqb, ltb-false}
 use Rattle.octets.specs.Numbers.{at}
-use Rattle.octets.specs.Pick.{pick}
 use Rattle.octets.proofs.Choices.{picked, passed, picks}
 use Rattle.octets.proofs.Tests.{or-right}
 use Rattle.decimal.specs.Text.{valueAfter}

@@ -1,17 +1,16 @@
 -- Laws of octets written as hexadecimal digits.
-use Prim.Native.Nat.{ℕ, zero, suc, _+_, _-_, _*_, _/_, _%_, _≤_, _<_}
+use Prim.Native.Nat.{ℕ, zero, suc, _+_, _*_, _/_, _%_, _≤_, _<_}
 use native.Mathlib.Omega.{arith}
 use native.Mathlib.Numerals.{add-one}
 use native.Mathlib.Nat.{zero-add}
 use mathlib.Core.Path.{_≡_, refl, sym, ap, _∙_}
-use mathlib.Core.Bool.{Bool, true, false, false≢true, not, _&&_, _||_}
-use mathlib.Core.List.{List, [], _∷_, _++_}
+use mathlib.Core.Bool.{Bool, true, false, false≢true, not, _||_}
+use mathlib.Core.List.{List, [], _∷_}
 use lib.ListN.{length, drop, set, drop-of-length-le}
 use lib.Seq.{drop-cons, paste, paste-suc, take-length}
-use lib.Dec.{eqb, ltb, leb}
+use lib.Dec.{eqb, ltb}
 use borrow.Author.Tests.{lt-ltb, le-ltb, eq-eqb, ne-eqb, ltb-false}
 use Rattle.octets.specs.Numbers.{at}
-use Rattle.octets.specs.Pick.{pick}
 use Rattle.octets.specs.Parts.{written}
 use Rattle.octets.proofs.Choices.{picked, passed}
 use Rattle.octets.proofs.Tests.{or-left, or-right}
@@ -50,7 +49,8 @@ many n (x ∷ []) h = absurd (omega arith)
 many zero (x ∷ y ∷ s) h = absurd (omega arith)
 many (suc n) (x ∷ y ∷ s) h = ap suc (many n s (omega arith))
 
-pub octet-at : (i n : ℕ) (s : List ℕ) → length s ≡ 2 * n → i < n → at (octetsOf s) i ≡ digitOf (at s (2 * i)) * 16 + digitOf (at s (2 * i + 1))
+pub octet-at : (i n : ℕ) (s : List ℕ) → length s ≡ 2 * n → i < n → at (octetsOf s) i ≡ digitOf (at s (2 * i)) * 16 + digitOf
+    (at s (2 * i + 1))
 unfolding octetsOf
 octet-at i n [] h l = absurd (omega arith)
 octet-at i n (x ∷ []) h l = absurd (omega arith)

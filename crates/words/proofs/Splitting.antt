@@ -1,5 +1,5 @@
 -- Laws of a line's first word and what stands behind it.
-use Prim.Native.Nat.{ℕ, zero, suc, _+_, _-_, _≤_, _<_}
+use Prim.Native.Nat.{ℕ, suc, _+_, _-_, _≤_, _<_}
 use native.Mathlib.Omega.{arith}
 use native.Mathlib.Numerals.{add-one}
 use native.Mathlib.Nat.{zero-add}
@@ -88,7 +88,8 @@ unfolding wordOf restOf pick
 no-rest [] h = refl
 no-rest (x ∷ s) h = by (eqb x space) (no-rest s) h
   where
-    by : (b : Bool) → (length s ≤ length (wordOf s) → [] ≡ restOf s) → suc (length s) ≤ length (pick b [] (x ∷ wordOf s)) → [] ≡ pick b s (restOf s)
+    by : (b : Bool) → (length s ≤ length (wordOf s) → [] ≡ restOf s) → suc (length s) ≤ length (pick b [] (x ∷ wordOf s)) → [] ≡ pick b s
+        (restOf s)
     by true r h = absurd (omega arith)
     by false r h = r (omega arith)
 

@@ -110,7 +110,8 @@ fn lay(s: &[u8], n: usize, out: &mut [u8])
 // Puts the octets that hexadecimal digits are at the start of out, and answers how many. NONE if s has anything else, an odd number of
 // digits or more than fit: then out stays.
 pub fn hex(s: &[u8], out: &mut [u8]) -> usize
-    ensures { λ r. ⌜ (r ≡ hexCount (now (s .entry)) (length (now (out .entry)))) × (now (out .exit) ≡ hexLeft (now (s .entry)) (now (out .entry))) ⌝ }
+    ensures { λ r. ⌜ (r ≡ hexCount (now (s .entry)) (length (now (out .entry)))) ×
+        (now (out .exit) ≡ hexLeft (now (s .entry)) (now (out .entry))) ⌝ }
 {
     let n = s.len() / 2;
     if s.len() % 2 != 0 {

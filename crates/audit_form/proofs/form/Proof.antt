@@ -22,7 +22,10 @@ loop-holds : tie.Need-loop-holds Inv-loop μ-loop
 loop-holds c = (refl, omega arith, at-first)
 
 returns : tie.Need-returns Inv-loop μ-loop
-returns c = begun (at-start (c .before .before .before .before .fresh .ensures) (c .before .before .before .none .ensures)) (all-made (c .before .before .loop .inv .2) (c .if1 .taken))
+returns c =
+    let c3 = c .before .before .before in
+    let c4 = c3 .before in
+    begun (at-start (c4 .fresh .ensures) (c3 .none .ensures)) (all-made (c .before .before .loop .inv .2) (c .if1 .taken))
 
 loop-again : tie.Need-loop-again Inv-loop μ-loop
 loop-again c =
@@ -34,11 +37,14 @@ loop-again c =
     )
 
 returns-2 : tie.Need-returns-2 Inv-loop μ-loop
-returns-2 c = begun (at-start (c .before .before .before .fresh .ensures) (c .before .before .none .ensures)) (stopped (c .before .loop .inv .2) (c .loop-test .left))
+returns-2 c =
+    let c3 = c .before .before .before in
+    begun (at-start (c3 .fresh .ensures) (c .before .before .none .ensures)) (stopped (c .before .loop .inv .2) (c .loop-test .left))
 
 pub form-spec : {M : Type 1} → statement M
 form-spec =
     tie.close
     (tie.spec
-    Inv-loop μ-loop (λ c κs. search needs) (λ c κs. search needs) loop-holds (λ c. search needs) returns (λ c κs. search needs) (λ c. search needs) (λ c. search needs) loop-again
+    Inv-loop μ-loop (λ c κs. search needs) (λ c κs. search needs) loop-holds (λ c. search needs) returns (λ c κs. search needs)
+    (λ c. search needs) (λ c. search needs) loop-again
     (λ c. search needs) returns-2)

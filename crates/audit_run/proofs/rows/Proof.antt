@@ -30,22 +30,34 @@ returns : tie.Need-returns Inv-loop μ-loop
 returns c = began (c .before .before .before .fresh .ensures) (all-made (c .before .before .loop .inv .6) (c .if1 .taken))
 
 add-made : tie.Need-add-made Inv-loop μ-loop
-add-made c = omega (arith, c .before .before .before .before .before .before .before .before .before .before .before .before .before .before .before .before .before .before .before .loop .inv .5, c .before .before .before .before .before .before .before .before .before .before .before .before .before .before .before .before .before .if1 .left)
+add-made c =
+    let c14 = c .before .before .before .before .before .before .before .before .before .before .before .before .before .before in
+    let c17 = c14 .before .before .before in
+    let c19 = c17 .before .before in
+    omega (arith, c19 .loop .inv .5, c17 .if1 .left)
 
 loop-less : tie.Need-loop-less Inv-loop μ-loop
-loop-less c = omega (arith, c .before .before .before .before .before .before .before .before .before .before .before .before .before .before .before .before .before .before .before .loop .inv .5, c .before .before .before .before .before .before .before .before .before .before .before .before .before .before .before .before .before .if1 .left)
+loop-less c =
+    let c14 = c .before .before .before .before .before .before .before .before .before .before .before .before .before .before in
+    let c17 = c14 .before .before .before in
+    let c19 = c17 .before .before in
+    omega (arith, c19 .loop .inv .5, c17 .if1 .left)
 
 loop-again : tie.Need-loop-again Inv-loop μ-loop
 loop-again c =
-    let t = c .before .before .before .before .before .before .before .before .before .before .turn in
-    let l = c .before .before .before .before .before .before .before .before .before .before .before .before .before .before .before .before .before .before .before .loop in (
+    let c10 = c .before .before .before .before .before .before .before .before .before .before in
+    let c17 = c10 .before .before .before .before .before .before .before in
+    let c18 = c17 .before in
+    let c19 = c18 .before in
+    let t = c10 .turn in
+    let l = c19 .loop in (
       t .kept .1 .1 .1 .1 .0 ∙ l .inv .0,
       t .kept .1 .1 .1 .1 .1 .0 ∙ l .inv .1,
       t .kept .1 .1 .1 .1 .1 .1 .1 .0 ∙ l .inv .2,
       t .kept .1 .1 .1 .1 .1 .1 .1 .1 .0 ∙ l .inv .3,
       t .kept .1 .1 .1 .1 .1 .1 .1 .1 .1 .0 ∙ l .inv .4,
-      omega (arith, l .inv .5, c .before .before .before .before .before .before .before .before .before .before .before .before .before .before .before .before .before .if1 .left),
-      one-more (l .inv .6) (c .before .before .before .before .before .before .before .before .before .before .before .before .before .before .before .before .before .before .loop-test .taken) (record { turned = t .ensures; silent = refl }),
+      omega (arith, l .inv .5, c17 .if1 .left),
+      one-more (l .inv .6) (c18 .loop-test .taken) (record { turned = t .ensures; silent = refl }),
     )
 
 returns-2 : tie.Need-returns-2 Inv-loop μ-loop

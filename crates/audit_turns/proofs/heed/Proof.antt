@@ -12,8 +12,10 @@ returns c =
 
 returns-2 : tie.Need-returns-2
 returns-2 c =
-    let a = c .before .before .before .before .before .before .before .before .before .before .before .args in
-    heeds-frame (a .audit) (now (a .rows)) (now (a .octets)) (now (a .lengths)) (c .before .before .before .before .before .pull .given .1) (c .before .before .frame .ensures)
+    let c5 = c .before .before .before .before .before in
+    let c11 = c5 .before .before .before .before .before .before in
+    let a = c11 .args in
+    heeds-frame (a .audit) (now (a .rows)) (now (a .octets)) (now (a .lengths)) (c5 .pull .given .1) (c .before .before .frame .ensures)
 
 returns-3 : tie.Need-returns-3
 returns-3 c =
@@ -22,11 +24,14 @@ returns-3 c =
 
 returns-4 : tie.Need-returns-4
 returns-4 c =
-    let a = c .before .before .before .before .before .before .before .before .before .before .args in
-    heeds-end (a .audit) (now (a .rows)) (now (a .octets)) (now (a .lengths)) (c .before .before .before .before .enum-told .given .1) (c .before .before .ended .ensures)
+    let c4 = c .before .before .before .before in
+    let c10 = c4 .before .before .before .before .before .before in
+    let a = c10 .args in
+    heeds-end (a .audit) (now (a .rows)) (now (a .octets)) (now (a .lengths)) (c4 .enum-told .given .1) (c .before .before .ended .ensures)
 
 pub heed-spec : {M : Type 1} → statement M
 heed-spec =
     tie.close
     (tie.spec
-    (λ c. search needs) (λ c κs. search needs) (λ c. search needs) (λ c κs. search needs) returns (λ c. search needs) returns-2 returns-3 (λ c. search needs) returns-4)
+    (λ c. search needs) (λ c κs. search needs) (λ c. search needs) (λ c κs. search needs) returns (λ c. search needs) returns-2 returns-3
+    (λ c. search needs) returns-4)

@@ -21,8 +21,12 @@ abbrev μ-loop : tie.MeasureT-loop
 
 loop-holds : tie.Need-loop-holds Inv-loop μ-loop
 loop-holds c =
-    let a = c .args in
-    (omega arith, refl, subst (λ (d : List ℕ). Putting d (now (a .out)) (a .at) (a .k) (a .n) (now (a .out))) (ap (λ (k : ℕ). lastDigits k (a .n)) (c .pre .0) ∙ decimal-last (a .n)) (none-put (a .k) (a .n) (now (a .out)) (a .at)))
+    let a = c .args in (
+      omega arith,
+      refl,
+      subst (λ (d : List ℕ). Putting d (now (a .out)) (a .at) (a .k) (a .n) (now (a .out)))
+          (ap (λ (k : ℕ). lastDigits k (a .n)) (c .pre .0) ∙ decimal-last (a .n)) (none-put (a .k) (a .n) (now (a .out)) (a .at)),
+    )
 
 loop-again : tie.Need-loop-again Inv-loop μ-loop
 loop-again c =
@@ -42,7 +46,8 @@ returns c =
     let l = c .before .loop in
     let a = c .before .before .args in
     let e : l .i ≡ 0 = omega arith in
-    subst (λ (x : ℕ). l .out ≡ overlay (now (a .out)) (a .at + x) (drop x (decimal (a .n)))) e (l .inv .2 .put) ∙ ap (λ (x : ℕ). overlay (now (a .out)) x (decimal (a .n))) (add-zero (a .at))
+    subst (λ (x : ℕ). l .out ≡ overlay (now (a .out)) (a .at + x) (drop x (decimal (a .n)))) e (l .inv .2 .put) ∙ ap
+    (λ (x : ℕ). overlay (now (a .out)) x (decimal (a .n))) (add-zero (a .at))
 
 pub digits-spec : {M : Type 1} → statement M
 digits-spec =

@@ -13,7 +13,9 @@ use Rattle.decimal.proofs.numbers.Statement.{statement}
 use Rattle.decimal.proofs.numbers.Tie as tie
 
 abbrev Inv-loop : tie.InvT-loop
-Inv-loop out₀ at list after next₀ i₀ out next i = (at + longestNumber * length list ≤ length out₀) × (i ≤ length list) × (length out ≡ length out₀) × Laid (longestNumber * i) (each after (take i list) []) out₀ at out next
+Inv-loop out₀ at list after next₀ i₀ out next i =
+    (at + longestNumber * length list ≤ length out₀) × (i ≤ length list) × (length out ≡ length out₀) × Laid (longestNumber * i)
+    (each after (take i list) []) out₀ at out next
 
 abbrev μ-loop : tie.MeasureT-loop
 μ-loop out₀ at list after next₀ i₀ out next i = length list - i
@@ -41,9 +43,11 @@ loop-again c =
 
 returns-3 : tie.Need-returns-3 Inv-loop μ-loop
 returns-3 c =
+    let c6 = c .before .before .before .before .before .before in
     let l = c .before .loop in
-    let a = c .before .before .before .before .before .before .args in
-    puts-laid (l .inv .0) (resaid (ap (λ (ns : List ℕ). each (a .after) ns []) (take-all (l .i) _ (c .loop-test .left))) (omega (arith, l .inv .1)) (l .inv .3))
+    let a = c6 .args in
+    puts-laid (l .inv .0) (resaid (ap (λ (ns : List ℕ). each (a .after) ns []) (take-all (l .i) _ (c .loop-test .left)))
+    (omega (arith, l .inv .1)) (l .inv .3))
 
 pub numbers-spec : {M : Type 1} → statement M
 numbers-spec =

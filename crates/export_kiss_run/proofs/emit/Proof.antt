@@ -2,7 +2,7 @@
 use mathlib.Core.Path.{ap, _∙_}
 use denote.Ref.{now}
 use lib.ListN.{length}
-use Rattle.export_kiss_run.proofs.Turning.{whole-hand}
+use Rattle.export_kiss_run.proofs.TurnLaws.{whole-hand}
 use borrow.Author.Needs.{needs}
 use Rattle.export_kiss_run.proofs.emit.Statement.{statement}
 use Rattle.export_kiss_run.proofs.emit.Tie as tie

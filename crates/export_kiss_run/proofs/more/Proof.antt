@@ -1,5 +1,5 @@
 -- `export_kiss_run::more` meets its contract.
-use Rattle.export_kiss_run.proofs.Turning.{reads-on}
+use Rattle.export_kiss_run.proofs.TurnLaws.{reads-on}
 use borrow.Author.Needs.{needs}
 use Rattle.export_kiss_run.proofs.more.Statement.{statement}
 use Rattle.export_kiss_run.proofs.more.Tie as tie

@@ -3,7 +3,8 @@ use mathlib.Core.Path.{_∙_, ap}
 use denote.Ref.{now}
 use native.Mathlib.Omega.{arith}
 use Rattle.export_kiss_run.specs.Turns.{Leads}
-use Rattle.export_kiss_run.proofs.Turning.{scan-sound, read-on, used-left, went-on}
+use Rattle.export_kiss_run.proofs.Turning.{scan-sound}
+use Rattle.export_kiss_run.proofs.TurnLaws.{read-on, used-left, went-on}
 use borrow.Author.Needs.{needs}
 use Rattle.export_kiss_run.proofs.turn.Statement.{statement}
 use Rattle.export_kiss_run.proofs.turn.Tie as tie

@@ -18,9 +18,11 @@ loop-holds c = none-drawn _ _ _
 
 loop-again : tie.Need-loop-again Inv-loop μ-loop
 loop-again c =
-    let l = c .before .before .before .before .before .before .before .loop in
-    let s = c .before .before .before .before .before .before .before .before .before .before .before .before .before .before .before .before in
-    one-drawn (s .args .image .now) (s .args .lines .now) _ (l .grey) _ _ (l .n) (s .pre .whole) (search needs) (l .inv) (c .before .before .before .before .part .ensures)
+    let c4 = c .before .before .before .before in
+    let c7 = c4 .before .before .before in
+    let s = c7 .before .before .before .before .before .before .before .before .before in
+    let l = c7 .loop in
+    one-drawn (s .args .image .now) (s .args .lines .now) _ (l .grey) _ _ (l .n) (s .pre .whole) (search needs) (l .inv) (c4 .part .ensures)
     (c .before .before .draw-line .ensures) (c .before .before .draw-line .kept .1 .1 .0)
 
 same-length : tie.Need-same-length Inv-loop μ-loop
@@ -28,9 +30,11 @@ same-length c = c .before .loop .inv .same ∙ c .before .before .before .before
 
 returns : tie.Need-returns Inv-loop μ-loop
 returns c =
-    let s = c .before .before .before .before .before .before .before .before .before .before in
-    all-drawn (s .args .image .now) (s .args .lines .now) _ _ (s .args .grey .now) (c .before .loop .n) (c .loop-test .left) (c .before .loop .inv)
-    (c .before .before .before .before .put .ensures) (s .pre .room)
+    let c4 = c .before .before .before .before in
+    let s = c4 .before .before .before .before .before .before in
+    all-drawn (s .args .image .now) (s .args .lines .now) _ _ (s .args .grey .now) (c .before .loop .n) (c .loop-test .left)
+    (c .before .loop .inv)
+    (c4 .put .ensures) (s .pre .room)
 
 pub draw-spec : {M : Type 1} → statement M
 draw-spec =

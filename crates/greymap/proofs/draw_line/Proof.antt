@@ -1,5 +1,4 @@
 -- `greymap::draw_line` meets its contract.
-use mathlib.Core.Path.{_≡_}
 use borrow.Author.Tests.{eq-eqb, ne-eqb}
 use Rattle.octets.specs.Pick.{pick}
 use Rattle.greymap.specs.Picture.{blank, lineShown}

@@ -21,9 +21,14 @@ loop-holds c =
 
 loop-again : tie.Need-loop-again Inv-loop μ-loop
 loop-again c =
+    let c3 = c .before .before .before in
     let l = c .before .before .loop in
-    let a = c .before .before .before .args in
-    (search needs, simp length-set (search needs), copied-on (a .lines .now) (a .list .now) (l .lines) (l .i) (search needs) (search needs) (l .inv .2))
+    let a = c3 .args in (
+      search needs,
+      simp length-set (search needs),
+      copied-on (a .lines .now) (a .list .now) (l .lines) (l .i) (search needs) (search needs)
+          (l .inv .2),
+    )
 
 returns : tie.Need-returns Inv-loop μ-loop
 returns c = all-copied _ _ _ (c .before .loop .i) (search needs) (c .before .loop .inv .2)

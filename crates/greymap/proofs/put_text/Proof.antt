@@ -8,13 +8,18 @@ use Rattle.greymap.proofs.put_text.Statement.{statement}
 use Rattle.greymap.proofs.put_text.Tie as tie
 
 numbers-lent : tie.Need-slice-aggregate-numbers-2
-numbers-lent c = sym (length-take-le imageLines (c .before .before .before .before .args .lines .now) (c .before .before .before .before .pre))
+numbers-lent c =
+    let c4 = c .before .before .before .before in
+    sym (length-take-le imageLines (c4 .args .lines .now) (c4 .pre))
 
 returns : tie.Need-returns
 returns c =
-    let n = c .before .before .before .before .before .before .before .numbers in
-    let s = c .before .before .before .before .before .before .before .before .before .before .before .before in
-    text-put (s .args .lines .now) _ _ (s .args .text .now) _ _ (n .result) (s .pre) refl (n .kept .0) (n .ensures) (c .before .before .before .part .ensures) (c .before .before .put .ensures)
+    let c3 = c .before .before .before in
+    let c7 = c3 .before .before .before .before in
+    let s = c7 .before .before .before .before .before in
+    let n = c7 .numbers in
+    text-put (s .args .lines .now) _ _ (s .args .text .now) _ _ (n .result) (s .pre) refl (n .kept .0) (n .ensures) (c3 .part .ensures)
+    (c .before .before .put .ensures)
 
 pub put-text-spec : {M : Type 1} → statement M
 put-text-spec =

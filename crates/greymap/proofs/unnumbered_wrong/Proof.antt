@@ -16,16 +16,22 @@ abbrev μ-loop : tie.MeasureT-loop
 returns : tie.Need-returns Inv-loop μ-loop
 unfolding blank
 returns c =
-    let l = c .before .before .before .before .before .before .loop in
-    let s = c .before .before .before .before .before .before .before .before .before in
-    wrong-line (s .args .list .now) (s .args .grey .now) (l .n) (s .pre) (l .inv) (search needs) (c .before .before .before .before .part .ensures) (c .before .same .ensures) (c .if1 .taken)
+    let c4 = c .before .before .before .before in
+    let c6 = c4 .before .before in
+    let s = c6 .before .before .before in
+    let l = c6 .loop in
+    wrong-line (s .args .list .now) (s .args .grey .now) (l .n) (s .pre) (l .inv) (search needs) (c4 .part .ensures)
+    (c .before .same .ensures) (c .if1 .taken)
 
 loop-again : tie.Need-loop-again Inv-loop μ-loop
 unfolding blank
 loop-again c =
-    let l = c .before .before .before .before .before .before .loop in
-    let s = c .before .before .before .before .before .before .before .before .before in
-    right-line (s .args .list .now) (s .args .grey .now) (l .n) (s .pre) (l .inv) (search needs) (c .before .before .before .before .part .ensures) (c .before .same .ensures) (c .if1 .left)
+    let c4 = c .before .before .before .before in
+    let c6 = c4 .before .before in
+    let s = c6 .before .before .before in
+    let l = c6 .loop in
+    right-line (s .args .list .now) (s .args .grey .now) (l .n) (s .pre) (l .inv) (search needs) (c4 .part .ensures)
+    (c .before .same .ensures) (c .if1 .left)
 
 returns-2 : tie.Need-returns-2 Inv-loop μ-loop
 returns-2 c = all-looked _ _ (c .before .loop .n) (c .before .before .before .before .pre) (c .before .loop .inv) (c .loop-test .left)

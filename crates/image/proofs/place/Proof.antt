@@ -47,9 +47,10 @@ returns-3 c =
 returns-4 : tie.Need-returns-4
 unfolding outcome
 returns-4 c =
-    let t = c .before .before .before .before in
+    let c3 = c .before .before .before in
+    let t = c3 .before in
     passed _ _ _ _ (t .before .if1 .left)
-    (passed _ _ _ _ (ne-eqb _ _ (t .if2 .left)) (report-refused _ _ _ _ (c .before .before .before .read .ensures) (c .before .n .given .1)))
+    (passed _ _ _ _ (ne-eqb _ _ (t .if2 .left)) (report-refused _ _ _ _ (c3 .read .ensures) (c .before .n .given .1)))
 
 pub place-spec : {M : Type 1} → statement M
 place-spec =

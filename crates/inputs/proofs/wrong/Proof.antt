@@ -9,4 +9,5 @@ returns c = wrong-told _ _ (c .before .before .before .same .ensures) (c .before
 
 pub wrong-spec : {M : Type 1} → statement M
 wrong-spec =
-    tie.close (tie.spec (λ c. search needs) (λ c κs. search needs) (λ c. search needs) (λ c κs. search needs) (λ c κs. search needs) returns)
+    tie.close (tie.spec (λ c. search needs) (λ c κs. search needs) (λ c. search needs) (λ c κs. search needs)
+    (λ c κs. search needs) returns)

@@ -6,9 +6,6 @@ use borrow.Author.Needs.{needs}
 use Rattle.kiss_writer.proofs.Refusing.{Good, good-first, good-fits, good-next, good-bad, good-end}
 use Rattle.kiss_writer.proofs.first_bad.Statement.{statement}
 use Rattle.kiss_writer.proofs.first_bad.Tie as tie
-use Rattle.kiss_writer.proofs.first_bad.Reads as reads
-use Rattle.kiss_writer.proofs.first_bad.Lts as lts
-use Rattle.frame.proofs.Frame.read.Reads as read-reads
 
 abbrev Inv-loop : tie.InvT-loop
 Inv-loop t octets lengths at₀ i₀ at i = Good t octets lengths at i

@@ -12,11 +12,14 @@ use Rattle.listing_lines.proofs.accepted.Tie as tie
 returns : tie.Need-returns
 unfolding acceptedLine
 returns c =
-    let start = c .before .before .before .before .before .before .before .before .before .before .before .before .before .before .before .before .before .before .before .before in
+    let c7 = c .before .before .before .before .before .before .before in
+    let c11 = c7 .before .before .before .before in
+    let c15 = c11 .before .before .before .before in
+    let start = c15 .before .before .before .before .before in
     let args = start .args in
-    let numbers = c .before .before .before .before .before .before .before .before .before .before .before .before .before .before .before .numbers in
-    let lost = c .before .before .before .before .before .before .before .before .before .before .before .loss in
-    let master = c .before .before .before .before .before .before .before .loss2 in
+    let numbers = c15 .numbers in
+    let lost = c11 .loss in
+    let master = c7 .loss2 in
     resaid refl (omega arith)
     (losses-then (args .arrival ∷ 0 ∷ args .a .channel ∷ []) (args .a .lost) (args .a .master) (args .a .packets)
     (numbers .ensures) (lost .ensures) (master .ensures) (c .before .before .number .ensures) (omega (arith, start .pre))
@@ -26,4 +29,5 @@ pub accepted-spec : {M : Type 1} → statement M
 accepted-spec =
     tie.close
     (tie.spec
-    (λ c. search needs) (λ c. search needs) (λ c κs. search needs) (λ c κs. search needs) (λ c κs. search needs) (λ c. search needs) (λ c κs. search needs) (λ c. search needs) returns)
+    (λ c. search needs) (λ c. search needs) (λ c κs. search needs) (λ c κs. search needs) (λ c κs. search needs) (λ c. search needs)
+    (λ c κs. search needs) (λ c. search needs) returns)

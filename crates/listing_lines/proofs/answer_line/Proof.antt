@@ -6,19 +6,41 @@ use Rattle.listing_lines.proofs.answer_line.Statement.{statement}
 use Rattle.listing_lines.proofs.answer_line.Tie as tie
 
 returns : tie.Need-returns
-returns c = none-put (now (c .before .before .before .before .args .out)) (c .before .before .before .before .args .at) (c .before .no-room .ensures) (c .if1 .taken)
+returns c =
+    let c4 = c .before .before .before .before in
+    none-put (now (c4 .args .out)) (c4 .args .at) (c .before .no-room .ensures) (c .if1 .taken)
 
 accepted-requires : tie.Need-accepted-requires
-accepted-requires c κs = some-room (now (c .before .before .before .before .before .before .before .before .args .out)) (c .before .before .before .before .before .before .before .before .args .at) (c .before .before .before .before .before .no-room .ensures) (c .before .before .before .before .if1 .left)
+accepted-requires c κs =
+    let c4 = c .before .before .before .before in
+    let c5 = c4 .before in
+    let c8 = c5 .before .before .before in
+    some-room (now (c8 .args .out)) (c8 .args .at) (c5 .no-room .ensures) (c4 .if1 .left)
 
 refused-requires : tie.Need-refused-requires
-refused-requires c κs = some-room (now (c .before .before .before .before .before .before .before .before .args .out)) (c .before .before .before .before .before .before .before .before .args .at) (c .before .before .before .before .before .no-room .ensures) (c .before .before .before .before .if1 .left)
+refused-requires c κs =
+    let c4 = c .before .before .before .before in
+    let c5 = c4 .before in
+    let c8 = c5 .before .before .before in
+    some-room (now (c8 .args .out)) (c8 .args .at) (c5 .no-room .ensures) (c4 .if1 .left)
 
 returns-2 : tie.Need-returns-2
-returns-2 c = line-put (now (c .before .before .before .before .before .before .before .before .before .before .before .args .out)) (c .before .before .before .before .before .before .before .before .before .before .before .args .at) (c .before .before .before .before .before .before .before .before .no-room .ensures) (c .before .before .before .before .before .before .before .if1 .left) (accepted-line _ (c .before .before .before .before .before .answer .given .1) (c .before .before .accepted .ensures))
+returns-2 c =
+    let c5 = c .before .before .before .before .before in
+    let c7 = c5 .before .before in
+    let c8 = c7 .before in
+    let c11 = c8 .before .before .before in
+    line-put (now (c11 .args .out)) (c11 .args .at) (c8 .no-room .ensures) (c7 .if1 .left)
+    (accepted-line _ (c5 .answer .given .1) (c .before .before .accepted .ensures))
 
 returns-3 : tie.Need-returns-3
-returns-3 c = line-put (now (c .before .before .before .before .before .before .before .before .before .before .before .args .out)) (c .before .before .before .before .before .before .before .before .before .before .before .args .at) (c .before .before .before .before .before .before .before .before .no-room .ensures) (c .before .before .before .before .before .before .before .if1 .left) (refused-line _ (c .before .before .before .before .before .answer2 .given .1) (c .before .before .refused .ensures))
+returns-3 c =
+    let c5 = c .before .before .before .before .before in
+    let c7 = c5 .before .before in
+    let c8 = c7 .before in
+    let c11 = c8 .before .before .before in
+    line-put (now (c11 .args .out)) (c11 .args .at) (c8 .no-room .ensures) (c7 .if1 .left)
+    (refused-line _ (c5 .answer2 .given .1) (c .before .before .refused .ensures))
 
 pub answer-line-spec : {M : Type 1} → statement M
 answer-line-spec =

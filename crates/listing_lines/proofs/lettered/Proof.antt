@@ -10,7 +10,14 @@ use Rattle.listing_lines.proofs.lettered.Statement.{statement}
 use Rattle.listing_lines.proofs.lettered.Tie as tie
 
 returns : tie.Need-returns
-returns c = resaid refl (omega (arith, c .before .before .before .before .before .before .before .before .before .before .before .before .before .before .before .pre .1)) (joined (omega (arith, c .before .before .before .before .before .before .before .before .before .before .before .before .before .before .before .pre .0)) (put-laid {text = c .before .before .before .before .before .before .before .before .before .before .before .before .before .before .before .args .x ∷ 32 ∷ []} (omega (arith, c .before .before .before .before .before .before .before .before .before .before .before .before .before .before .before .pre .0)) (c .before .before .before .before .before .before .before .before .before .before .put .ensures)) (numbers-then (now (c .before .before .before .before .before .before .before .before .before .before .before .before .before .before .before .args .list)) (c .before .before .before .before .before .before .before .before .before .before .before .before .before .before .before .args .size) 10 (omega (arith, c .before .before .before .before .before .before .before .before .before .before .before .before .before .before .before .pre .0, c .before .before .before .before .before .before .before .before .before .before .before .before .before .before .before .pre .1, c .before .before .before .before .before .before .before .before .before .before .put .kept .0)) (c .before .before .before .before .before .before .numbers .kept .0) (c .before .before .before .before .before .before .numbers .ensures) (c .before .before .number .ensures)))
+returns c =
+    let c6 = c .before .before .before .before .before .before in
+    let c10 = c6 .before .before .before .before in
+    let c15 = c10 .before .before .before .before .before in
+    resaid refl (omega (arith, c15 .pre .1))
+    (joined (omega (arith, c15 .pre .0)) (put-laid {text = c15 .args .x ∷ 32 ∷ []} (omega (arith, c15 .pre .0)) (c10 .put .ensures))
+    (numbers-then (now (c15 .args .list)) (c15 .args .size) 10 (omega (arith, c15 .pre .0, c15 .pre .1, c10 .put .kept .0))
+    (c6 .numbers .kept .0) (c6 .numbers .ensures) (c .before .before .number .ensures)))
 
 pub lettered-spec : {M : Type 1} → statement M
 lettered-spec =

@@ -10,11 +10,23 @@ use Rattle.listing_lines.proofs.refused.Statement.{statement}
 use Rattle.listing_lines.proofs.refused.Tie as tie
 
 add-result : tie.Need-add-result
-add-result c = omega (arith, c .before .before .before .before .before .before .before .before .before .before .before .pre, numbers-laid 32 (c .before .before .before .before .before .before .before .before .before .before .before .args .arrival ∷ c .before .before .before .before .before .before .before .before .before .before .before .args .refusal ∷ []) (omega (arith, c .before .before .before .before .before .before .before .before .before .before .before .pre)) (c .before .before .before .before .before .before .before .numbers .ensures) .near)
+add-result c =
+    let c7 = c .before .before .before .before .before .before .before in
+    let c11 = c7 .before .before .before .before in
+    omega (
+      arith,
+      c11 .pre,
+      numbers-laid 32 (c11 .args .arrival ∷ c11 .args .refusal ∷ []) (omega (arith, c11 .pre))
+          (c7 .numbers .ensures) .near,
+    )
 
 returns : tie.Need-returns
 unfolding refusedLine
-returns c = resaid refl (omega arith) (numbers-text (c .before .before .before .before .before .before .before .before .before .before .before .args .arrival ∷ c .before .before .before .before .before .before .before .before .before .before .before .args .refusal ∷ []) (45 ∷ 32 ∷ 45 ∷ 32 ∷ 45 ∷ 32 ∷ 45 ∷ 10 ∷ []) (omega (arith, c .before .before .before .before .before .before .before .before .before .before .before .pre)) (c .before .before .before .before .before .before .before .numbers .kept .0) (c .before .before .before .before .before .before .before .numbers .ensures) (c .before .before .put .ensures))
+returns c =
+    let c7 = c .before .before .before .before .before .before .before in
+    let c11 = c7 .before .before .before .before in
+    resaid refl (omega arith) (numbers-text (c11 .args .arrival ∷ c11 .args .refusal ∷ []) (45 ∷ 32 ∷ 45 ∷ 32 ∷ 45 ∷ 32 ∷ 45 ∷ 10 ∷ [])
+    (omega (arith, c11 .pre)) (c7 .numbers .kept .0) (c7 .numbers .ensures) (c .before .before .put .ensures))
 
 pub refused-spec : {M : Type 1} → statement M
 refused-spec =

@@ -7,4 +7,6 @@ use Rattle.rawbits.proofs.keep.Tie as tie
 pub keep-spec : {M : Type 1} → statement M
 keep-spec =
     tie.close
-    (tie.spec (λ c. search needs) (λ c. search needs) (λ c. search needs) (λ c. (keep-one (c .before .args .kept .now) _ 0 (c .if1 .taken), refl)) (λ c. keep-none (c .before .args .kept .now) _ _ (c .if1 .left)))
+    (tie.spec (λ c. search needs) (λ c. search needs) (λ c. search needs)
+    (λ c. (keep-one (c .before .args .kept .now) _ 0 (c .if1 .taken), refl))
+    (λ c. keep-none (c .before .args .kept .now) _ _ (c .if1 .left)))

@@ -20,14 +20,16 @@ returns-2 : tie.Need-returns-2
 returns-2 c =
     let w = c .before .before .before in
     let a = w .before .before .before .before .before .args in
-    refuses-50 (a .octets .now) (a .lengths .now) (a .out .now) (w .before .any-outside .ensures) (w .wrong .ensures) (c .before .before .if1 .left)
+    refuses-50 (a .octets .now) (a .lengths .now) (a .out .now) (w .before .any-outside .ensures) (w .wrong .ensures)
+    (c .before .before .if1 .left)
     (c .before .short .ensures) (c .if2 .taken)
 
 lay-requires : tie.Need-lay-requires
 lay-requires c κs =
-    let w = c .before .before .before .before in
+    let c3 = c .before .before .before in
+    let w = c3 .before in
     let a = w .before .before .before .before .before .args in
-    asks-room (a .octets .now) (a .lengths .now) (a .out .now) (w .before .any-outside .ensures) (w .wrong .ensures) (c .before .before .before .if1 .left)
+    asks-room (a .octets .now) (a .lengths .now) (a .out .now) (w .before .any-outside .ensures) (w .wrong .ensures) (c3 .if1 .left)
     (c .before .before .short .ensures) (c .before .if2 .left)
 
 returns-3 : tie.Need-returns-3
@@ -35,7 +37,8 @@ returns-3 c =
     let l = c .before .before .before .before in
     let w = l .before .before .before in
     let a = w .before .before .before .before .before .args in
-    writes (a .octets .now) (a .lengths .now) (a .out .now) (w .before .any-outside .ensures) (w .wrong .ensures) (l .before .before .if1 .left)
+    writes (a .octets .now) (a .lengths .now) (a .out .now) (w .before .any-outside .ensures) (w .wrong .ensures)
+    (l .before .before .if1 .left)
     (l .before .short .ensures) (l .if2 .left) (c .before .before .lay .ensures)
 
 pub write-spec : {M : Type 1} → statement M

@@ -9,4 +9,5 @@ count-spec =
     tie.close
     (tie.spec
     (λ c. search needs) (λ c. count-short _ (c .if1 .taken)) (λ c. search needs) (λ c. search needs) (λ c. search needs) (λ c. search needs)
-    (λ c κs. search needs) (λ c. search needs) (λ c. count-whole _ (c .four .ensures) (c .before .before .before .before .before .if1 .left)))
+    (λ c κs. search needs) (λ c. search needs)
+    (λ c. count-whole _ (c .four .ensures) (c .before .before .before .before .before .if1 .left)))

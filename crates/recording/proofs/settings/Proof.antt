@@ -24,12 +24,14 @@ returns-4 c =
 returns-5 : tie.Need-returns-5
 returns-5 c =
     let l = c .before .before .before .before in
-    ap whole (c .wide .ensures) ∙ settings-whole _ (l .before .before .four .ensures) (l .before .if2 .left) (l .if3 .left) (c .before .before .if4 .left)
+    ap whole (c .wide .ensures) ∙ settings-whole _ (l .before .before .four .ensures) (l .before .if2 .left) (l .if3 .left)
+    (c .before .before .if4 .left)
 
 pub settings-spec : {M : Type 1} → statement M
 settings-spec =
     tie.close
     (tie.spec
-    (λ c. search needs) (λ c. settings-short _ (c .if1 .taken)) (λ c. search needs) (λ c. search needs) (λ c. search needs) (λ c. search needs)
+    (λ c. search needs) (λ c. settings-short _ (c .if1 .taken)) (λ c. search needs) (λ c. search needs) (λ c. search needs)
+    (λ c. search needs)
     (λ c κs. search needs) returns-2 (λ c. search needs) returns-3 (λ c. search needs) returns-4
     (λ c. search needs) (λ c κs. search needs) returns-5)

@@ -27,12 +27,15 @@ content-of-requires c κs =
 
 returns-4 : tie.Need-returns-4
 returns-4 c =
-    let m = c .before .before .before .before .before .before .before .before .before .before in
-    report-read _ _ (m .before .before .find .ensures) (m .pair .given .1) (c .before .before .before .before .if1 .left)
-    (above _ _ (c .before .before .before .image-line .ensures _ refl refl) (c .before .before .octet .ensures) (c .before .if2 .left)) (c .content-of .ensures)
+    let c3 = c .before .before .before in
+    let c4 = c3 .before in
+    let m = c4 .before .before .before .before .before .before in
+    report-read _ _ (m .before .before .find .ensures) (m .pair .given .1) (c4 .if1 .left)
+    (above _ _ (c3 .image-line .ensures _ refl refl) (c .before .before .octet .ensures) (c .before .if2 .left)) (c .content-of .ensures)
 
 pub read-content-spec : {M : Type 1} → statement M
 read-content-spec =
     tie.close
     (tie.spec
-    (λ c κs. search needs) (λ c. search needs) (λ c. search needs) returns returns-2 (λ c κs. search needs) (λ c κs. search needs) returns-3 content-of-requires returns-4)
+    (λ c κs. search needs) (λ c. search needs) (λ c. search needs) returns returns-2 (λ c κs. search needs)
+    (λ c κs. search needs) returns-3 content-of-requires returns-4)

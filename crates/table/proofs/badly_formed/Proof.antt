@@ -1,12 +1,7 @@
 use Rattle.table.proofs.Forming.{many, wide, counted}
-use native.Mathlib.Omega.{arith}
 use borrow.Author.Needs.{needs}
 use Rattle.table.proofs.badly_formed.Statement.{statement}
 use Rattle.table.proofs.badly_formed.Tie as tie
-use Rattle.table.proofs.badly_formed.Reads as reads
-use Rattle.table.proofs.badly_formed.Lts as lts
-use Rattle.table.proofs.four_at.Reads as four-at-reads
-use Rattle.table.proofs.widths_wrong.Reads as widths-wrong-reads
 
 -- src/lib.rt:91:19
 four-at-requires : tie.Need-four-at-requires
@@ -26,7 +21,9 @@ widths-wrong-requires c κs = search needs
 
 -- src/lib.rt:96:9
 returns-2 : tie.Need-returns-2
-returns-2 c = wide _ _ (c .before .before .before .four-at .ensures) (c .before .before .if1 .left) (c .before .widths-wrong .ensures) (c .if2 .taken)
+returns-2 c =
+    let c3 = c .before .before .before in
+    wide _ _ (c3 .four-at .ensures) (c .before .before .if1 .left) (c .before .widths-wrong .ensures) (c .if2 .taken)
 
 -- src/lib.rt:98:18
 mul-at : tie.Need-mul-at
@@ -58,7 +55,11 @@ add-result-2 c = search needs
 
 -- src/lib.rt:87:1
 returns-3 : tie.Need-returns-3
-returns-3 c = counted _ _ (c .before .before .before .before .four-at .ensures) (c .before .before .before .if1 .left) (c .before .before .widths-wrong .ensures) (c .before .if2 .left) (c .four-at2 .ensures)
+returns-3 c =
+    let c3 = c .before .before .before in
+    let c4 = c3 .before in
+    counted _ _ (c4 .four-at .ensures) (c3 .if1 .left) (c .before .before .widths-wrong .ensures) (c .before .if2 .left)
+    (c .four-at2 .ensures)
 
 pub badly-formed-spec : {M : Type 1} → statement M
 badly-formed-spec =

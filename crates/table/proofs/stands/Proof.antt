@@ -15,7 +15,8 @@ returns-3 : tie.Need-returns-3
 returns-3 c =
     let p = c .before .before .before in
     let w = p .before .before .before .before .before in
-    comparing _ _ (w .before .wide .ensures) (w .wide2 .ensures) (omega arith) (omega arith) (p .before .part .ensures) (p .put .ensures) (c .same .ensures)
+    comparing _ _ (w .before .wide .ensures) (w .wide2 .ensures) (omega arith) (omega arith) (p .before .part .ensures) (p .put .ensures)
+    (c .same .ensures)
 
 pub stands-spec : {M : Type 1} → statement M
 stands-spec =

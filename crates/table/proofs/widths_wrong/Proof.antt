@@ -1,15 +1,13 @@
 -- `table::widths_wrong` meets its contract. The columns before number i have right widths.
 use Prim.Native.Nat.{_≤_, _-_, _+_, _*_}
-use mathlib.Core.Path.{_≡_, refl, sym, _∙_}
+use mathlib.Core.Path.{_≡_, sym, _∙_}
 use native.Mathlib.Nat.{sub-zero}
-use lib.ListN.{length, drop}
+use lib.ListN.{drop}
 use borrow.Author.Needs.{needs}
 use Rattle.table.specs.Table.{columnsIn, widthsWrong}
-use Rattle.table.proofs.Columns.{from, width-bad, width-good, width-end}
+use Rattle.table.proofs.Columns.{width-bad, width-good, width-end}
 use Rattle.table.proofs.widths_wrong.Statement.{statement}
 use Rattle.table.proofs.widths_wrong.Tie as tie
-use Rattle.table.proofs.widths_wrong.Reads as reads
-use Rattle.table.proofs.widths_wrong.Lts as lts
 
 abbrev Inv-loop : tie.InvT-loop
 Inv-loop head columns i₀ i =

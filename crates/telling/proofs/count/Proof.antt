@@ -10,7 +10,9 @@ use Rattle.telling.proofs.count.Tie as tie
 
 returns : tie.Need-returns
 unfolding counted
-returns c = ap (λ (x : ℕ). set (c .before .before .before .before .args .counts .now) (c .before .before .before .before .args .number) x) (c .wrapping-add-u64 .ensures)
+returns c =
+    let c4 = c .before .before .before .before in
+    ap (λ (x : ℕ). set (c4 .args .counts .now) (c4 .args .number) x) (c .wrapping-add-u64 .ensures)
 
 returns-2 : tie.Need-returns-2
 unfolding counted

@@ -1,5 +1,4 @@
 -- `arrives` meets its contract.
-use borrow.Author.Needs.{needs}
 use Rattle.octets.proofs.Choices.{answers}
 use Rattle.octets.proofs.Tests.{tests}
 use Rattle.transmit_recording.specs.Recording.{arrivalsOf}

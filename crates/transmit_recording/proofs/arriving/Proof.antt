@@ -29,4 +29,5 @@ pub arriving-spec : {M : Type 1} → statement M
 arriving-spec =
     tie.close
     (tie.spec
-    Inv-loop μ-loop (λ c. none-yet _) (λ c. search needs) (λ c. search needs) (λ c κs. search needs) add-n (λ c. search needs) (λ c. search needs) loop-again (λ c. search needs) returns)
+    Inv-loop μ-loop (λ c. none-yet _) (λ c. search needs) (λ c. search needs) (λ c κs. search needs) add-n (λ c. search needs)
+    (λ c. search needs) loop-again (λ c. search needs) returns)

@@ -1,5 +1,4 @@
 -- `transmit_recording::behind` meets its contract.
-use native.Mathlib.Omega.{arith}
 use borrow.Author.Needs.{needs}
 use Rattle.transmit_recording.proofs.Laying.{behind-end, behind-on}
 use Rattle.transmit_recording.proofs.behind.Statement.{statement}

@@ -18,8 +18,10 @@ returns-2 c =
 
 returns-3 : tie.Need-returns-3
 returns-3 c =
-    let a = c .before .before .before .before .before .before .args in
-    lays-nothing (a .t) (now (a .made)) (now (a .frames)) (now (a .out)) (omega (arith, c .if3 .taken, c .before .if2 .left, c .before .before .if1 .left))
+    let c6 = c .before .before .before .before .before .before in
+    let a = c6 .args in
+    lays-nothing (a .t) (now (a .made)) (now (a .frames)) (now (a .out))
+    (omega (arith, c .if3 .taken, c .before .if2 .left, c .before .before .if1 .left))
 
 lay-frames-requires : tie.Need-lay-frames-requires
 lay-frames-requires c κs =
@@ -31,7 +33,8 @@ returns-4 c =
     let p = c .before .before .before .before .before .before in
     let i = p .before .before .before .before in
     let a = i .before .before .before .before .before .before .args in
-    lays-all (a .t) (now (a .made)) (now (a .frames)) (now (a .out)) (omega (arith, i .if3 .left, i .before .if2 .left, i .before .before .if1 .left))
+    lays-all (a .t) (now (a .made)) (now (a .frames)) (now (a .out))
+    (omega (arith, i .if3 .left, i .before .if2 .left, i .before .before .if1 .left))
     (p .before .before .before .head .ensures) (p .put .ensures) (c .before .before .lay-frames .ensures)
 
 pub lay-spec : {M : Type 1} → statement M

@@ -17,7 +17,8 @@ returns-2 c =
     let q = p .before .before .before in
     let w = q .before .before .before in
     let a = w .before .before .before .before .args in
-    lays-one (now (a .rest)) (a .n) (now (a .out)) (a .to) (w .before .if1 .left) (w .word-octets .ensures) (q .put .ensures) (p .part .ensures)
+    lays-one (now (a .rest)) (a .n) (now (a .out)) (a .to) (w .before .if1 .left) (w .word-octets .ensures) (q .put .ensures)
+    (p .part .ensures)
     (c .before .before .put2 .ensures)
 
 add-result-2 : tie.Need-add-result-2

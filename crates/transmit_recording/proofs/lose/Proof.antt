@@ -22,8 +22,14 @@ sub-lost c = omega (arith, c .before .before .loop .inv .1 .upto)
 
 loop-again : tie.Need-loop-again Inv-loop μ-loop
 loop-again c =
-    let k = c .before .before .before .before .before .before in
-    (search needs, one-more _ _ _ _ _ (k .loop .i) (k .loop .inv .1) (c .before .before .before .before .before .loop-test .taken) (c .before .before .before .lost .ensures) (c .before .before .mark .ensures))
+    let c3 = c .before .before .before in
+    let c5 = c3 .before .before in
+    let c6 = c5 .before in
+    let k = c6 in (
+      search needs,
+      one-more _ _ _ _ _ (k .loop .i) (k .loop .inv .1) (c5 .loop-test .taken) (c3 .lost .ensures)
+          (c .before .before .mark .ensures),
+    )
 
 returns : tie.Need-returns Inv-loop μ-loop
 returns c = all-signed _ _ _ _ _ (c .before .loop .i) (c .before .loop .inv .1) (c .loop-test .left)
@@ -32,4 +38,5 @@ pub lose-spec : {M : Type 1} → statement M
 lose-spec =
     tie.close
     (tie.spec
-    Inv-loop μ-loop loop-holds sub-lost (λ c κs. search needs) (λ c κs. search needs) (λ c. search needs) (λ c. search needs) loop-again (λ c. search needs) returns)
+    Inv-loop μ-loop loop-holds sub-lost (λ c κs. search needs) (λ c κs. search needs) (λ c. search needs) (λ c. search needs) loop-again
+    (λ c. search needs) returns)

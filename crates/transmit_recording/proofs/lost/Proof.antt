@@ -5,4 +5,6 @@ use Rattle.transmit_recording.proofs.lost.Statement.{statement}
 use Rattle.transmit_recording.proofs.lost.Tie as tie
 
 pub lost-spec : {M : Type 1} → statement M
-lost-spec = tie.close (tie.spec (λ c. search needs) (λ c. search needs) (λ c. no-sign (c .before .args .link .now) (c .before .args .i) (c .if1 .left)))
+lost-spec =
+    tie.close (tie.spec (λ c. search needs) (λ c. search needs)
+    (λ c. no-sign (c .before .args .link .now) (c .before .args .i) (c .if1 .left)))

@@ -1,6 +1,6 @@
 -- `empty` meets its contract.
 use borrow.Author.Needs.{needs}
-use Rattle.transmit_steps.proofs.Steps.{emptied-on, not-emptied}
+use Rattle.transmit_steps.proofs.Making.{emptied-on, not-emptied}
 use Rattle.transmit_steps.proofs.empty.Statement.{statement}
 use Rattle.transmit_steps.proofs.empty.Tie as tie
 
@@ -18,4 +18,7 @@ returns-2 c =
     (search needs) (c .stopped .ensures)
 
 pub empty-spec : {M : Type 1} → statement M
-empty-spec = tie.close (tie.spec (λ c κs. search needs) (λ c κs. search needs) (λ c κs. search needs) (λ c. search needs) (λ c κs. search needs) (λ c κs. search needs) (λ c κs. search needs) (λ c. search needs) (λ c κs. search needs) (λ c. search needs) (λ c. search needs) returns (λ c. search needs) returns-2)
+empty-spec =
+    tie.close (tie.spec (λ c κs. search needs) (λ c κs. search needs) (λ c κs. search needs) (λ c. search needs) (λ c κs. search needs)
+    (λ c κs. search needs) (λ c κs. search needs) (λ c. search needs) (λ c κs. search needs) (λ c. search needs) (λ c. search needs) returns
+    (λ c. search needs) returns-2)

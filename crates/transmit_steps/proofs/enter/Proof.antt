@@ -5,4 +5,6 @@ use Rattle.transmit_steps.proofs.enter.Statement.{statement}
 use Rattle.transmit_steps.proofs.enter.Tie as tie
 
 pub enter-spec : {M : Type 1} → statement M
-enter-spec = tie.close (tie.spec (λ c. search needs) (λ c. search needs) (λ c. search needs) (λ c. search needs) (λ c. search needs) (λ c. not-entered _ _ _ (search needs)))
+enter-spec =
+    tie.close (tie.spec (λ c. search needs) (λ c. search needs) (λ c. search needs) (λ c. search needs) (λ c. search needs)
+    (λ c. not-entered _ _ _ (search needs)))

@@ -5,4 +5,6 @@ use Rattle.transmit_steps.proofs.front.Statement.{statement}
 use Rattle.transmit_steps.proofs.front.Tie as tie
 
 pub front-spec : {M : Type 1} → statement M
-front-spec = tie.close (tie.spec (λ c. all-of (c .before .args .list .now) (c .before .args .n) (search needs)) (λ c. first-of (c .before .before .args .list .now) (c .before .before .args .n) (search needs)) (λ c. search needs))
+front-spec =
+    tie.close (tie.spec (λ c. all-of (c .before .args .list .now) (c .before .args .n) (search needs))
+    (λ c. first-of (c .before .before .args .list .now) (c .before .before .args .n) (search needs)) (λ c. search needs))

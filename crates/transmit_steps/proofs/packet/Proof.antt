@@ -14,7 +14,8 @@ returns-3 : tie.Need-returns-3
 returns-3 c =
     let h = c .before .before .before .before in
     let k = h .before .before in
-    no-value _ _ _ _ (k .before .if1 .left) (k .if2 .left) (h .hex .ensures .0) (h .hex .ensures .1) (c .before .if3 .taken) (c .stopped3 .ensures)
+    no-value _ _ _ _ (k .before .if1 .left) (k .if2 .left) (h .hex .ensures .0) (h .hex .ensures .1) (c .before .if3 .taken)
+    (c .stopped3 .ensures)
 
 returns-4 : tie.Need-returns-4
 returns-4 c =
@@ -28,4 +29,6 @@ pub packet-spec : {M : Type 1} → statement M
 packet-spec =
     tie.close
     (tie.spec
-    (λ c κs. search needs) returns (λ c κs. search needs) returns-2 (λ c. search needs) (λ c. search needs) (λ c. search needs) (λ c κs. search needs) (λ c κs. search needs) (λ c. search needs) returns-3 (λ c κs. search needs) (λ c κs. search needs) (λ c κs. search needs) (λ c. search needs) (λ c. search needs) returns-4)
+    (λ c κs. search needs) returns (λ c κs. search needs) returns-2 (λ c. search needs) (λ c. search needs) (λ c. search needs)
+    (λ c κs. search needs) (λ c κs. search needs) (λ c. search needs) returns-3 (λ c κs. search needs) (λ c κs. search needs)
+    (λ c κs. search needs) (λ c. search needs) (λ c. search needs) returns-4)

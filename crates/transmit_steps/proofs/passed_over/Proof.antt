@@ -8,4 +8,5 @@ pub passed-over-spec : {M : Type 1} → statement M
 passed-over-spec =
     tie.close
     (tie.spec
-    (λ c. empty-line (c .before .args .line .now) (c .if1 .taken)) (λ c. search needs) (λ c. first-sign (c .before .before .args .line .now) (c .before .if1 .left)))
+    (λ c. empty-line (c .before .args .line .now) (c .if1 .taken)) (λ c. search needs)
+    (λ c. first-sign (c .before .before .args .line .now) (c .before .if1 .left)))

@@ -1,6 +1,5 @@
 -- `window::hand` meets its contract.
 use Rattle.window.proofs.Hands.{hand-none, hand-rest, hand-beyond}
-use native.Mathlib.Omega.{arith}
 use borrow.Author.Needs.{needs}
 use Rattle.window.proofs.hand.Statement.{statement}
 use Rattle.window.proofs.hand.Tie as tie

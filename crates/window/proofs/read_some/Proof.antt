@@ -18,7 +18,14 @@ returns c =
     let xs = now (s .args .input) in
     let k = length xs - a in
     let ys = r .read .last .1 .0 in (
-      omega (arith, length-append (take a xs) (ys ++ postOf a k xs), length-append ys (postOf a k xs), length-take-le a xs (s .pre), c .before .before .count .ensures .0 .0),
+      omega (
+        arith,
+        length-append (take a xs) (ys ++ postOf a k xs),
+        length-append ys (postOf a k xs),
+        length-take-le a xs
+            (s .pre),
+        c .before .before .count .ensures .0 .0,
+      ),
       take-put a k xs ys (s .pre),
     )
 

@@ -9,7 +9,8 @@ use Rattle.window.proofs.shift.Statement.{statement}
 use Rattle.window.proofs.shift.Tie as tie
 
 abbrev Inv-loop : tie.InvT-loop
-Inv-loop input₀ at n i₀ input i = (i ≤ n) × (length input ≡ length input₀) × (take i input ≡ take i (drop at input₀)) × (drop i input ≡ drop i input₀)
+Inv-loop input₀ at n i₀ input i =
+    (i ≤ n) × (length input ≡ length input₀) × (take i input ≡ take i (drop at input₀)) × (drop i input ≡ drop i input₀)
 
 abbrev μ-loop : tie.MeasureT-loop
 μ-loop input₀ at n i₀ input i = n - i

@@ -28,7 +28,8 @@ mul-out : tie.Need-mul-out Inv-loop μ-loop
 mul-out c =
     let k = c .before .before .before in
     let p = k .before .before .before in
-    let d : c .digit .result ≤ 15 = omega (arith, c .digit .ensures, digit-at (p .args .s .now) (2 * k .loop .i) (p .pre .2) (search needs)) in
+    let d : c .digit .result ≤ 15 = omega (arith, c .digit .ensures, digit-at (p .args .s .now) (2 * k .loop .i) (p .pre .2) (search needs))
+    in
     omega arith
 
 add-out : tie.Need-add-out Inv-loop μ-loop

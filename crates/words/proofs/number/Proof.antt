@@ -35,7 +35,8 @@ loop-again : tie.Need-loop-again Inv-loop μ-loop
 loop-again c =
     let k = c .before .before .before .before .before in
     rw (c .wide .ensures)
-    (one-more _ (k .before .if1 .left) (k .loop .n) (k .loop .i) (k .loop .inv) (search needs) (c .before .before .if2 .left) (c .before .if3 .left))
+    (one-more _ (k .before .if1 .left) (k .loop .n) (k .loop .i) (k .loop .inv) (search needs) (c .before .before .if2 .left)
+    (c .before .if3 .left))
 
 returns-4 : tie.Need-returns-4 Inv-loop μ-loop
 returns-4 c =

@@ -6,8 +6,13 @@ use Rattle.audit_form.proofs.Reading.more.Tie as tie
 
 returns : tie.Need-returns
 returns c =
-    let read = c .before .before .before .before .before .before .before .refill .ensures in
-    grew (c .before .before .before .before .before .before .before .before .before .before .before .before .args .self) read (c .before .before .before .before .have .ensures) (c .before .before .hand .ensures) (c .before .read .ensures) (c .brought .ensures)
+    let c4 = c .before .before .before .before in
+    let c7 = c4 .before .before .before in
+    let c12 = c7 .before .before .before .before .before in
+    let read = c7 .refill .ensures in
+    grew (c12 .args .self) read (c4 .have .ensures) (c .before .before .hand .ensures) (c .before .read .ensures) (c .brought .ensures)
 
 pub more-spec : {M : Type 1} → statement M
-more-spec = tie.close (tie.spec (λ c κs. search needs) (λ c κs. search needs) (λ c κs. search needs) (λ c κs. search needs) (λ c κs. search needs) (λ c. search needs) returns)
+more-spec =
+    tie.close (tie.spec (λ c κs. search needs) (λ c κs. search needs) (λ c κs. search needs) (λ c κs. search needs) (λ c κs. search needs)
+    (λ c. search needs) returns)

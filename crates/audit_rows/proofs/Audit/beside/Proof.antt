@@ -22,13 +22,19 @@ turn-requires : tie.Need-turn-requires Inv-loop μ-loop
 turn-requires c κs = c .before .before .loop .inv .1 .goingOn (not-true _ (c .before .loop-test .taken))
 
 loop-less : tie.Need-loop-less Inv-loop μ-loop
-loop-less c = fewer-turns (not-true _ (c .before .before .before .before .before .loop-test .taken)) (c .before .before .before .turn .ensures)
+loop-less c =
+    let c3 = c .before .before .before in
+    let c5 = c3 .before .before in
+    fewer-turns (not-true _ (c5 .loop-test .taken)) (c3 .turn .ensures)
 
 loop-again : tie.Need-loop-again Inv-loop μ-loop
-loop-again c = (
-  c .before .before .before .turn .kept .1 .1 .1 .0 ∙ c .before .before .before .before .before .before .loop .inv .0,
-  one-turn _ _ _ (c .before .before .before .before .before .before .loop .inv .1) (not-true _ (c .before .before .before .before .before .loop-test .taken)) (c .before .before .before .turn .ensures),
-)
+loop-again c =
+    let c3 = c .before .before .before in
+    let c5 = c3 .before .before in
+    let c6 = c5 .before in (
+      c3 .turn .kept .1 .1 .1 .0 ∙ c6 .loop .inv .0,
+      one-turn _ _ _ (c6 .loop .inv .1) (not-true _ (c5 .loop-test .taken)) (c3 .turn .ensures),
+    )
 
 returns : tie.Need-returns Inv-loop μ-loop
 returns c = all-turns _ _ _ (c .before .loop .inv .1) (not-false _ (c .loop-test .left))

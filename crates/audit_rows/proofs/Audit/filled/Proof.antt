@@ -22,22 +22,31 @@ loop-holds c = (refl, ap length (c .hand .ensures), none-filled _ _)
 
 returns : tie.Need-returns Inv-loop μ-loop
 returns c =
-    let l = c .before .before .before .before .before .before .before .before .loop in
-    let short : length (handOf (l .audit) (l .rows)) < 17 = omega (arith, l .inv .1, c .before .before .before .before .before .before .before .loop-test .taken) in
+    let c5 = c .before .before .before .before .before in
+    let c7 = c5 .before .before in
+    let c8 = c7 .before in
+    let l = c8 .loop in
+    let short : length (handOf (l .audit) (l .rows)) < 17 = omega (arith, l .inv .1, c7 .loop-test .taken) in
     let none = sym (c .before .brought .ensures) ∙ not-true _ (c .if1 .taken) in
-    dry-filled (l .inv .2) (c .before .before .before .before .before .refill .ensures) short (c .before .before .have .ensures) none
+    dry-filled (l .inv .2) (c5 .refill .ensures) short (c .before .before .have .ensures) none
 
 loop-less : tie.Need-loop-less Inv-loop μ-loop
 loop-less c =
-    let l = c .before .before .before .before .before .before .before .before .loop in
+    let c5 = c .before .before .before .before .before in
+    let c7 = c5 .before .before in
+    let c8 = c7 .before in
+    let l = c8 .loop in
     let some = sym (c .before .brought .ensures) ∙ not-false _ (c .if1 .left) in
-    omega (arith, more-here (c .before .before .before .before .before .refill .ensures) (l .inv .1) some, c .before .before .before .before .before .before .before .loop-test .taken, c .before .before .have .ensures)
+    omega (arith, more-here (c5 .refill .ensures) (l .inv .1) some, c7 .loop-test .taken, c .before .before .have .ensures)
 
 loop-again : tie.Need-loop-again Inv-loop μ-loop
 loop-again c =
-    let l = c .before .before .before .before .before .before .before .before .loop in
-    let read = c .before .before .before .before .before .refill in
-    let short : length (handOf (l .audit) (l .rows)) < 17 = omega (arith, l .inv .1, c .before .before .before .before .before .before .before .loop-test .taken) in
+    let c5 = c .before .before .before .before .before in
+    let c7 = c5 .before .before in
+    let c8 = c7 .before in
+    let l = c8 .loop in
+    let read = c5 .refill in
+    let short : length (handOf (l .audit) (l .rows)) < 17 = omega (arith, l .inv .1, c7 .loop-test .taken) in
     let same = c .before .before .have .ensures in
     let some = sym (c .before .brought .ensures) ∙ not-false _ (c .if1 .left) in
     (read .kept .1 .1 .0 ∙ l .inv .0, here-by (read .ensures) same, more-filled (l .inv .2) (read .ensures) short same some)
@@ -46,5 +55,6 @@ pub filled-spec : {M : Type 1} → statement M
 filled-spec =
     tie.close
     (tie.spec
-    Inv-loop μ-loop (λ c κs. search needs) loop-holds (λ c κs. search needs) (λ c κs. search needs) (λ c κs. search needs) (λ c. search needs) returns loop-less loop-again
+    Inv-loop μ-loop (λ c κs. search needs) loop-holds (λ c κs. search needs) (λ c κs. search needs) (λ c κs. search needs)
+    (λ c. search needs) returns loop-less loop-again
     (λ c. search needs) (λ c. full-filled (c .before .loop .inv .2) (omega (arith, c .before .loop .inv .1, c .loop-test .left))))

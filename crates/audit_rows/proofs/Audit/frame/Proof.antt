@@ -13,8 +13,10 @@ returns c =
 
 returns-2 : tie.Need-returns-2
 returns-2 c =
-    let a = c .before .before .before .before .before .before .before .before .before .before .before .args in
-    answered (a .self) (now (a .rows)) (now (a .octets)) (now (a .lengths)) (c .before .before .before .before .before .answer .given .1) (c .before .before .packets .ensures)
+    let c5 = c .before .before .before .before .before in
+    let c11 = c5 .before .before .before .before .before .before in
+    let a = c11 .args in
+    answered (a .self) (now (a .rows)) (now (a .octets)) (now (a .lengths)) (c5 .answer .given .1) (c .before .before .packets .ensures)
 
 pub frame-spec : {M : Type 1} → statement M
 frame-spec =

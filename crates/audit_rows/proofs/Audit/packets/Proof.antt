@@ -25,14 +25,22 @@ cast-size : tie.Need-cast-size Inv-loop μ-loop
 cast-size c = omega (arith, c .shared-slice-known4 .given (c .before .before .before .loop .i))
 
 add-from : tie.Need-add-from Inv-loop μ-loop
-add-from c = omega (arith, c .before .before .before .before .before .shared-slice-known4 .given (c .before .before .before .before .before .before .before .before .loop .i), c .before .before .before .before .before .before .before .before .loop .inv .1 .near, c .before .before .before .before .before .before .before .before .loop .inv .1 .most, c .before .before .before .before .before .before .before .before .before .before .before .before .before .before .fits)
+add-from c =
+    let c5 = c .before .before .before .before .before in
+    let c8 = c5 .before .before .before in
+    let c14 = c8 .before .before .before .before .before .before in
+    omega (arith, c5 .shared-slice-known4 .given (c8 .loop .i), c8 .loop .inv .1 .near, c8 .loop .inv .1 .most, c14 .fits)
 
 loop-again : tie.Need-loop-again Inv-loop μ-loop
 loop-again c =
-    let l = c .before .before .before .before .before .before .before .before .loop in
-    let small = c .before .before .before .before .before .shared-slice-known4 .given (l .i) in (
+    let c3 = c .before .before .before in
+    let c5 = c3 .before .before in
+    let c8 = c5 .before .before .before in
+    let l = c8 .loop in
+    let small = c5 .shared-slice-known4 .given (l .i) in (
       c .before .before .beside .kept .1 .1 .1 .0 ∙ l .inv .0,
-      one-done _ _ _ _ _ _ _ (l .i) (l .inv .1) (search needs) (search needs) (omega (arith, small)) (c .before .before .before .part .ensures) (c .before .before .beside .ensures),
+      one-done _ _ _ _ _ _ _ (l .i) (l .inv .1) (search needs) (search needs) (omega (arith, small)) (c3 .part .ensures)
+          (c .before .before .beside .ensures),
     )
 
 returns-2 : tie.Need-returns-2 Inv-loop μ-loop

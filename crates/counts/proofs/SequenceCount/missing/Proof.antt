@@ -8,7 +8,8 @@ use Rattle.counts.proofs.SequenceCount.missing.Tie as tie
 
 returns : tie.Need-returns
 returns c =
-    wrapped 16384 65536 _ _ (c .before .wrapping-sub-u16 .result) _ (omega arith) refl (c .before .wrapping-sub-u16 .ensures) (c .wrapping-sub-u162 .ensures)
+    wrapped 16384 65536 _ _ (c .before .wrapping-sub-u16 .result) _ (omega arith) refl (c .before .wrapping-sub-u16 .ensures)
+    (c .wrapping-sub-u162 .ensures)
 
 pub missing-spec : {M : Type 1} → statement M
 missing-spec = tie.close (tie.spec (λ c κs. search needs) (λ c κs. search needs) returns)

@@ -86,6 +86,7 @@ pub first-wrong-spec : {M : Type 1} → statement M
 first-wrong-spec =
     tie.close
     (tie.spec
-    Inv-loop μ-loop (λ c. search needs) (λ c κs. search needs) returns loop-holds (λ c. search needs) (λ c. search needs) (λ c. search needs)
+    Inv-loop μ-loop (λ c. search needs) (λ c κs. search needs) returns loop-holds (λ c. search needs) (λ c. search needs)
+    (λ c. search needs)
     (λ c κs. search needs) (λ c. search needs) returns-2 (λ c. search needs) loop-again
     (λ c. search needs) returns-3 (λ c. search needs) (λ c κs. search needs) returns-4 returns-5)

@@ -37,7 +37,15 @@ part-escapes-end c = let k = c .before in omega (arith, fits (k .before .loop .i
 add-count : tie.Need-add-count Inv-loop μ-loop
 add-count c =
     let k = c .before .before .before in
-    record { fits = omega (arith, k .before .loop .inv .few, summing-few (k .before .loop .inv) (k .loop-test .taken) _ (c .escapes .ensures), fits (k .before .loop .inv .standing) (k .loop-test .taken)) }
+    record {
+      fits = omega (
+        arith,
+        k .before .loop .inv .few,
+        summing-few (k .before .loop .inv) (k .loop-test .taken) _
+            (c .escapes .ensures),
+        fits (k .before .loop .inv .standing) (k .loop-test .taken),
+      );
+    }
 
 loop-again : tie.Need-loop-again Inv-loop μ-loop
 loop-again c =

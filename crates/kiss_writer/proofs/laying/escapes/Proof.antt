@@ -1,7 +1,6 @@
 -- `laying::escapes` meets its contract.
 use Prim.Native.Nat.{_-_}
 use lib.ListN.{length}
-use native.Mathlib.Omega.{arith}
 use borrow.Author.Needs.{needs}
 use Rattle.kiss_writer.proofs.Escaping.{Counting, counting-first, counting-one, counting-none, counting-end}
 use Rattle.kiss_writer.proofs.laying.escapes.Statement.{statement}

@@ -4,11 +4,10 @@ use mathlib.Core.Path.{_∙_}
 use lib.ListN.{length, length-set}
 use native.Mathlib.Omega.{arith}
 use borrow.Author.Needs.{needs}
-use Rattle.kiss_writer.proofs.Escaping.{Block, block-begins, block-first, block-room, block-room-end, block-mark, block-escape, block-itself, block-end}
+use Rattle.kiss_writer.proofs.Escaping.{Block, block-begins, block-first, block-room, block-room-end, block-mark, block-escape}
+use Rattle.kiss_writer.proofs.Escaping.{block-itself, block-end}
 use Rattle.kiss_writer.proofs.laying.lay_block.Statement.{statement}
 use Rattle.kiss_writer.proofs.laying.lay_block.Tie as tie
-use Rattle.kiss_writer.proofs.laying.lay_block.Reads as reads
-use Rattle.kiss_writer.proofs.laying.lay_block.Lts as lts
 
 abbrev Inv-loop : tie.InvT-loop
 Inv-loop body at out₀ n₀ i₀ out n i = Block out₀ body n₀ out n i
@@ -47,13 +46,17 @@ add-out-2 : tie.Need-add-out-2 Inv-loop μ-loop
 add-out-2 c = let l = c .before .before .before in record { fits = omega (arith, block-room (l .before .loop .inv) (l .loop-test .taken)) }
 
 slice-write-out-5 : tie.Need-slice-write-out-5 Inv-loop μ-loop
-slice-write-out-5 c = let l = c .before .before .before in simp length-set (omega (arith, block-room (l .before .loop .inv) (l .loop-test .taken)))
+slice-write-out-5 c =
+    let c3 = c .before .before .before in
+    let l = c3 in simp length-set (omega (arith, block-room (l .before .loop .inv) (l .loop-test .taken)))
 
 add-n-3 : tie.Need-add-n-3 Inv-loop μ-loop
 add-n-3 c = let l = c .before .before .before in record { fits = omega (arith, block-room (l .before .loop .inv) (l .loop-test .taken)) }
 
 loop-again-2 : tie.Need-loop-again-2 Inv-loop μ-loop
-loop-again-2 c = let l = c .before .before .before in block-escape (l .before .loop .inv) (l .loop-test .taken) (c .before .if1 .left) (c .if2 .taken)
+loop-again-2 c =
+    let c3 = c .before .before .before in
+    let l = c3 in block-escape (l .before .loop .inv) (l .loop-test .taken) (c .before .if1 .left) (c .if2 .taken)
 
 slice-write-out-6 : tie.Need-slice-write-out-6 Inv-loop μ-loop
 slice-write-out-6 c = let l = c .before .before .before in omega (arith, block-room (l .before .loop .inv) (l .loop-test .taken))
@@ -62,7 +65,9 @@ add-n-4 : tie.Need-add-n-4 Inv-loop μ-loop
 add-n-4 c = let l = c .before .before .before in record { fits = omega (arith, block-room (l .before .loop .inv) (l .loop-test .taken)) }
 
 loop-again-3 : tie.Need-loop-again-3 Inv-loop μ-loop
-loop-again-3 c = let l = c .before .before .before in block-itself (l .before .loop .inv) (l .loop-test .taken) (c .before .if1 .left) (c .if2 .left)
+loop-again-3 c =
+    let c3 = c .before .before .before in
+    let l = c3 in block-itself (l .before .loop .inv) (l .loop-test .taken) (c .before .if1 .left) (c .if2 .left)
 
 slice-write-out-7 : tie.Need-slice-write-out-7 Inv-loop μ-loop
 slice-write-out-7 c = omega (arith, block-room-end (c .before .loop .inv))

@@ -1,6 +1,5 @@
 use mathlib.Core.Path.{sym, _∙_, ap}
-use mathlib.Core.Bool.{true, false}
-use Rattle.rawbits.specs.Reader.{standing, after}
+use Rattle.rawbits.specs.Reader.{after}
 use borrow.Author.Needs.{needs}
 use Rattle.rawbits.proofs.Steps.{one-passes, zero-passes, flag-ends}
 use Rattle.rawbits.proofs.Reader.bit.Statement.{statement}

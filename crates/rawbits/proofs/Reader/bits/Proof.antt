@@ -1,5 +1,4 @@
 use Prim.Native.Nat.{_-_}
-use native.Mathlib.Omega.{arith}
 use borrow.Author.Needs.{needs}
 use Rattle.rawbits.specs.Reader.{standing}
 use Rattle.rawbits.proofs.Turning.{Turns, turns-first, turns-next, turns-end}
@@ -7,7 +6,8 @@ use Rattle.rawbits.proofs.Reader.bits.Statement.{statement}
 use Rattle.rawbits.proofs.Reader.bits.Tie as tie
 
 abbrev Inv-loop : tie.InvT-loop
-Inv-loop octet kept₀ reader₀ found₀ rest₀ i₀ kept reader found rest i = Turns (standing reader₀ kept₀) octet (standing reader kept) found rest i
+Inv-loop octet kept₀ reader₀ found₀ rest₀ i₀ kept reader found rest i =
+    Turns (standing reader₀ kept₀) octet (standing reader kept) found rest i
 
 abbrev μ-loop : tie.MeasureT-loop
 μ-loop octet kept₀ reader₀ found₀ rest₀ i₀ kept reader found rest i = 8 - i

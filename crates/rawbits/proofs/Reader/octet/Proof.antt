@@ -20,7 +20,8 @@ returns : tie.Need-returns
 returns c =
     let m = c .before .before .before .before in
     let n = m .before .before .before .before in
-    octet-at-once _ _ _ _ (n .before .before .before .pre) (search needs) (n .wide .ensures) (m .if1 .taken) (search needs) (c .before .before .eight .ensures)
+    octet-at-once _ _ _ _ (n .before .before .before .pre) (search needs) (n .wide .ensures) (m .if1 .taken) (search needs)
+    (c .before .before .eight .ensures)
 
 pub octet-spec : {M : Type 1} → statement M
 octet-spec =

@@ -1,6 +1,5 @@
 use mathlib.Core.Path.{refl}
 use Prim.Native.Nat.{_-_}
-use native.Mathlib.Omega.{arith}
 use lib.ListN.{length}
 use borrow.Author.Needs.{needs}
 use Rattle.rawbits.specs.Reader.{standing}
@@ -29,12 +28,16 @@ returns c =
 loop-again : tie.Need-loop-again Inv-loop μ-loop
 loop-again c =
     let m = c .before .before .before in
-    let n = m .before .before .before .before in
-    (n .before .loop .inv .0, scans-next (n .before .loop .inv .1) (n .loop-test .taken) (m .octet .ensures) (c .before .nothing .ensures) (c .if1 .left))
+    let n = m .before .before .before .before in (
+      n .before .loop .inv .0,
+      scans-next (n .before .loop .inv .1) (n .loop-test .taken) (m .octet .ensures) (c .before .nothing .ensures)
+          (c .if1 .left),
+    )
 
 pub scan-spec : {M : Type 1} → statement M
 scan-spec =
     tie.close
     (tie.spec
-    Inv-loop μ-loop loop-holds (λ c. search needs) (λ c. search needs) (λ c κs. c .before .before .before .before .loop .inv .0) (λ c. search needs) (λ c κs. search needs) returns
+    Inv-loop μ-loop loop-holds (λ c. search needs) (λ c. search needs) (λ c κs. c .before .before .before .before .loop .inv .0)
+    (λ c. search needs) (λ c κs. search needs) returns
     (λ c. search needs) loop-again (λ c. scans-end (c .before .loop .inv .1) (c .loop-test .left)))

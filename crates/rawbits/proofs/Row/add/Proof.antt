@@ -6,7 +6,8 @@ use Rattle.rawbits.proofs.Row.add.Tie as tie
 returns-2 : tie.Need-returns-2
 returns-2 c =
     let m = c .before .before in
-    add-whole _ _ _ (m .before .before .before .before .top .ensures) (m .before .before .if1 .left) (m .keep .ensures .0) (m .keep .ensures .1)
+    add-whole _ _ _ (m .before .before .before .before .top .ensures) (m .before .before .if1 .left) (m .keep .ensures .0)
+    (m .keep .ensures .1)
 
 pub add-spec : {M : Type 1} → statement M
 add-spec =

@@ -39,7 +39,9 @@ returns-6 c =
     told-whole _ (m .before .enum-told3 .given .1) (m .count .ensures) (c .before .n3 .given .1)
 
 returns-7 : tie.Need-returns-7
-returns-7 c = c .frames .ensures ∙ ap (λ (a : Reader). scanned a (now (c .before .before .before .before .before .args .window))) (sym (c .before .before .self .given .1))
+returns-7 c =
+    let c5 = c .before .before .before .before .before in
+    c .frames .ensures ∙ ap (λ (a : Reader). scanned a (now (c5 .args .window))) (sym (c .before .before .self .given .1))
 
 returns-8 : tie.Need-returns-8
 returns-8 c = stays-bad _ (c .enum-told5 .given .1)

@@ -9,9 +9,11 @@ use Rattle.report.proofs.Housekeeping.write.Tie as tie
 
 returns : tie.Need-returns
 returns c =
-    let a = c .before .before .before .before .before .before .before .before .before .before .before .args in
+    let c8 = c .before .before .before .before .before .before .before .before in
+    let c11 = c8 .before .before .before in
+    let a = c11 .args in
     reported (a .packet) (content.Housekeeping (a .self)) (a .rest .now ∷ [])
-    (housekeeping-wrong (a .packet) (a .self) (a .rest .now) (c .before .before .before .before .before .before .before .before .housekeeping .ensures (a .packet) refl refl))
+    (housekeeping-wrong (a .packet) (a .self) (a .rest .now) (c8 .housekeeping .ensures (a .packet) refl refl))
     refl
     (c .before .before .write .ensures)
 

@@ -9,14 +9,18 @@ use Rattle.report.proofs.Line.write.Tie as tie
 
 returns : tie.Need-returns
 returns c =
-    let a = c .before .before .before .before .before .before .before .before .before .before .before .before .args in
+    let c7 = c .before .before .before .before .before .before .before in
+    let c9 = c7 .before .before in
+    let c12 = c9 .before .before .before in
+    let a = c12 .args in
     reported (a .packet) (content.Line (a .self)) (a .pixels .now ∷ [])
-    (line-wrong (a .packet) (a .self) (a .pixels .now) (c .before .before .before .before .before .before .before .before .before .image-line .ensures (a .packet) refl refl))
-    (numbers-first {b = a .self .line ∷ []} (a .pixels .now) [] (c .before .before .before .before .before .before .before .word-octets .ensures) refl refl)
+    (line-wrong (a .packet) (a .self) (a .pixels .now) (c9 .image-line .ensures (a .packet) refl refl))
+    (numbers-first {b = a .self .line ∷ []} (a .pixels .now) [] (c7 .word-octets .ensures) refl refl)
     (c .before .before .write .ensures)
 
 pub write-spec : {M : Type 1} → statement M
 write-spec =
     tie.close
     (tie.spec
-    (λ c κs. search needs) (λ c κs. search needs) (λ c. search needs) (λ c. search needs) (λ c. search needs) (λ c κs. search needs) (λ c. search needs) returns)
+    (λ c κs. search needs) (λ c κs. search needs) (λ c. search needs) (λ c. search needs) (λ c. search needs) (λ c κs. search needs)
+    (λ c. search needs) returns)

@@ -40,10 +40,12 @@ returns-2 : tie.Need-returns-2
 returns-2 c =
     let m = c .before .before .before .before .before in
     let a = m .before .before .before .before .before .before .before .args in
-    core-written (a .packet) (core-passed (a .wrong) (a .c .now) (a .d .now) (m .before .if1 .left) .right) (m .lay .ensures) (c .before .before .write .ensures)
+    core-written (a .packet) (core-passed (a .wrong) (a .c .now) (a .d .now) (m .before .if1 .left) .right) (m .lay .ensures)
+    (c .before .before .write .ensures)
 
 pub write-spec : {M : Type 1} → statement M
 write-spec =
     tie.close
     (tie.spec
-    returns (λ c. search needs) (λ c. search needs) add-n-3 lay-requires array-share-prefix-source slice-aggregate-write (λ c κs. search needs) (λ c. search needs) returns-2)
+    returns (λ c. search needs) (λ c. search needs) add-n-3 lay-requires array-share-prefix-source slice-aggregate-write
+    (λ c κs. search needs) (λ c. search needs) returns-2)

@@ -14,10 +14,12 @@ add-result-2 c =
 
 returns : tie.Need-returns
 returns c =
-    let s = c .before .before .before .before .before .before .before .before .before .before in
+    let c3 = c .before .before .before in
+    let c6 = c3 .before .before .before in
+    let s = c6 .before .before .before .before in
     let a = s .args in
     framing (a .common) (a .master .0) (a .count .0) (a .place) (a .at) (a .n) (a .time .now) (a .packets .now) (a .out .now) (s .pre)
-    (c .before .before .before .before .before .before .frame .ensures) refl (c .before .before .before .write .ensures)
+    (c6 .frame .ensures) refl (c3 .write .ensures)
     (ap (λ (k : ℕ). a .n + 23 + k) (c .wide .ensures))
 
 pub write-spec : {M : Type 1} → statement M

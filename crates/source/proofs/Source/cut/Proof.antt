@@ -10,7 +10,8 @@ use Rattle.source.proofs.Source.cut.Tie as tie
 
 returns-3 : tie.Need-returns-3
 returns-3 c =
-    sym (ap cutAt (c .before .before .before .before .self .given .1) ∙ ap (λ (a : Reader). isCut (stateOf a [])) (c .before .reader .given .1))
+    let c4 = c .before .before .before .before in
+    sym (ap cutAt (c4 .self .given .1) ∙ ap (λ (a : Reader). isCut (stateOf a [])) (c .before .reader .given .1))
 
 pub cut-spec : {M : Type 1} → statement M
 cut-spec =

@@ -37,7 +37,9 @@ returns-3 c =
     (f .before .before .if3 .left) (f .four-at .ensures) (c .before .if4 .taken)
 
 row-lent-2 : tie.Need-reason-requires Inv-loop μ-loop
-row-lent-2 c κs = (rw (lent-from _ _) (simp length-drop (search needs)), c .before .before .before .before .before .before .before .before .before .accepted .ensures)
+row-lent-2 c κs =
+    let c9 = c .before .before .before .before .before .before .before .before .before in
+    (rw (lent-from _ _) (simp length-drop (search needs)), c9 .accepted .ensures)
 
 returns-4 : tie.Need-returns-4 Inv-loop μ-loop
 returns-4 c =

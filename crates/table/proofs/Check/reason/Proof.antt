@@ -1,5 +1,5 @@
 -- `table::Check::reason` meets its contract.
-use mathlib.Core.Path.{sym, ap, _∙_}
+use mathlib.Core.Path.{ap, _∙_}
 use mathlib.Core.Option.{some}
 use Prim.Native.Nat.{ℕ}
 use lib.ListN.{drop, getElem?}
@@ -23,8 +23,11 @@ against-requires : tie.Need-against-requires
 against-requires c κs =
     let t = c .before .before .before in
     let f = t .before .before .before .before in
-    let s = f .before .before .before in
-    (s .pre .0, ok (s .args .self) (handed (s .args .packet .now) (s .args .arrival)) (rowIn (s .args .row .now)) (f .four-at .ensures) (t .before .before .if1 .left) (s .pre .1) (t .if2 .left))
+    let s = f .before .before .before in (
+      s .pre .0,
+      ok (s .args .self) (handed (s .args .packet .now) (s .args .arrival)) (rowIn (s .args .row .now)) (f .four-at .ensures)
+          (t .before .before .if1 .left) (s .pre .1) (t .if2 .left),
+    )
 
 returns-3 : tie.Need-returns-3
 returns-3 c =
@@ -32,7 +35,9 @@ returns-3 c =
     let f = t .before .before .before .before in
     let s = f .before .before .before in
     so _ _ _ (f .four-at .ensures) (t .before .before .if1 .left) (s .pre .1) (t .if2 .left)
-    (c .against .ensures ∙ ap (λ (n : ℕ). against (rowIn (s .args .row .now)) (getElem? (columnsIn n (drop 4 (s .args .self .head))) (at (s .args .row .now) 4)) (some (handed (s .args .packet .now) (s .args .arrival)))) (c .before .wide .ensures))
+    (c .against .ensures ∙ ap (λ (n : ℕ). against (rowIn (s .args .row .now))
+    (getElem? (columnsIn n (drop 4 (s .args .self .head))) (at (s .args .row .now) 4))
+    (some (handed (s .args .packet .now) (s .args .arrival)))) (c .before .wide .ensures))
 
 pub reason-spec : {M : Type 1} → statement M
 reason-spec =

@@ -24,12 +24,21 @@ four-at-requires-2 : tie.Need-four-at-requires-2
 four-at-requires-2 c κs =
     let b = c .before .before .before in
     let l : length (b .before .before .before .before .args .self .head) ≡ 72 = search needs in
-    omega (arith, l, few (b .before .before .before .before .args .self) (b .before .badly-formed .ensures) (b .if1 .left) (c .before .four-at .ensures))
+    omega (
+      arith,
+      l,
+      few (b .before .before .before .before .args .self) (b .before .badly-formed .ensures) (b .if1 .left)
+          (c .before .four-at .ensures),
+    )
 
 cast-check : tie.Need-cast-check
 cast-check c =
     let b = c .before .before .before .before in
-    omega (arith, few (b .before .before .before .before .args .self) (b .before .badly-formed .ensures) (b .if1 .left) (c .before .before .four-at .ensures))
+    omega (
+      arith,
+      few (b .before .before .before .before .args .self) (b .before .badly-formed .ensures) (b .if1 .left)
+          (c .before .before .four-at .ensures),
+    )
 
 returns-2 : tie.Need-returns-2
 returns-2 c =

@@ -1,5 +1,4 @@
 -- `Row::more` meets its contract.
-use mathlib.Core.Path.{_≡_}
 use borrow.Author.Needs.{needs}
 use Rattle.transmit_settings.proofs.Setting.{row-is}
 use Rattle.transmit_settings.proofs.Row.more.Statement.{statement}

@@ -17,5 +17,6 @@ pub bit-spec : {M : Type 1} → statement M
 bit-spec =
     tie.close
     (tie.spec
-    (λ c. search needs) (λ c. search needs) returns (λ c. search needs) (λ c. search needs) (λ c. search needs) (λ c. search needs) returns-2
+    (λ c. search needs) (λ c. search needs) returns (λ c. search needs) (λ c. search needs) (λ c. search needs)
+    (λ c. search needs) returns-2
     (λ c. search needs) (λ c. search needs) (λ c. search needs) returns-3)
