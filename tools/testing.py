@@ -3,6 +3,7 @@ product: packets, frames, recordings, KISS and raw bits.
 
 A test script has functions marked @case, each given a folder of its own, and ends with testing.main(). It prints a line a case, 'ok NAME',
 'not ok NAME: why' or 'skipped NAME: why', and ends with 1 if any was not ok."""
+import collections
 import os
 import pathlib
 import stat
@@ -206,3 +207,102 @@ def packed(row):
     """Bits as octets, the earliest in the top, the last octet filled up with 0."""
     row = row.ljust(-(-len(row) // 8) * 8, "0")
     return int(row, 2).to_bytes(len(row) // 8, "big") if row else b""
+
+
+# What a summary is to say, counted from a listing's lines and the packets' octets.
+
+def packets_of(listing, octets):
+    """The octets of the packets that a listing of a recording names, each found by its header in the frames from its first to its last."""
+    t, frames, data, found = octets[4], frames_of(octets), {}, []
+    for line in listing.decode().splitlines():
+        word = line.split()
+        if word[0] == "P":
+            first, last, apid, count, size = int(word[1]), int(word[2]), int(word[3]), int(word[4]), int(word[7])
+            row = b"".join(data[n][1] for n in sorted(data) if first <= n <= last and data[n][0] == data[last][0])
+            head = (0x0800 | apid).to_bytes(2, "big") + (0xC000 | count).to_bytes(2, "big") + (size - 7).to_bytes(2, "big")
+            starts = [i for i in range(len(row) - size + 1) if row[i:i + 6] == head]
+            found.append(next(row[i:i + size] for i in starts if crc_hqx(row[i:i + size - 2], 0xFFFF) == int.from_bytes(row[i + size - 2:i + size], "big")))
+        elif word[0].isdigit() and word[1] == "0":
+            octets = frames[int(word[0]) - 1]
+            data[int(word[0])] = octets[16] >> 3 & 7, octets[20:len(octets) - 3 - t]
+    return found
+
+
+def of_channel(rows, channel, losses):
+    """The rows of a channel's losses, or of all channels' with no number."""
+    subject = ("channel", channel) if channel is not None else ("all", "")
+    rows.append((*subject, "lost", sum(int(loss) for loss in losses if loss != "?")))
+    rows.append((*subject, "unknown", losses.count("?")))
+
+
+def summary_rows(listing, packets):
+    """The rows of a summary as CSV: subject, key, measure and number."""
+    words = [line.split() for line in listing.decode().splitlines()[1:]]
+    frames = [word for word in words if word[0].isdigit()]
+    good, read = [word for word in frames if word[1] == "0"], [word for word in words if word[0] == "P"]
+    refused, away = collections.Counter(int(word[1]) for word in frames if word[1] != "0"), collections.Counter(int(word[3]) for word in words if word[0] == "Q")
+    rows = [("frames", "", "accepted", len(good)), ("frames", "", "refused", refused.total())] if frames else []
+    rows += [("frames", number, "refused", many) for number, many in sorted(refused.items())]
+    for channel in sorted({int(word[2]) for word in good}):
+        own = [word[3] for word in good if int(word[2]) == channel]
+        rows.append(("channel", channel, "frames", len(own)))
+        of_channel(rows, channel, own)
+    if good:
+        of_channel(rows, None, [word[4] for word in good])
+    rows += [("packets", "", "read", len(read)), ("packets", "", "turned away", away.total())] if read or away else []
+    keys = collections.Counter(tuple(map(int, (word[3], word[5], word[6]))) for word in read)
+    rows += [("packets", "/".join(map(str, key)), "read", many) for key, many in sorted(keys.items())]
+    rows += [("packets", number, "turned away", many) for number, many in sorted(away.items())]
+    last, missing, restarted, lines = {}, collections.Counter(), collections.Counter(), {}
+    for apid, count in ((int(word[3]), int(word[4])) for word in read):
+        if apid in last:
+            again = count == 0 and last[apid] != 16383
+            restarted[apid] += again
+            missing[apid] += 0 if again else (count - last[apid] - 1) % 16384
+        last[apid] = count
+    for apid in sorted(last):
+        if missing[apid] or restarted[apid]:
+            rows += [("apid", apid, "missing", missing[apid]), ("apid", apid, "restarted", restarted[apid])]
+    for octets in packets:
+        if octets[7:9] == b"\x80\x07" and len(octets) == 207 and octets[16] < 120:
+            lines.setdefault(int.from_bytes(octets[14:16], "big"), set()).add(octets[16])
+    rows += [("image", image, "lines", len(got)) for image, got in list(lines.items())[:1024]]
+    return rows
+
+
+def summary_csv(listing, packets):
+    """The summary of a listing as CSV."""
+    return "".join(",".join(map(str, row)) + "\n" for row in [("subject", "key", "measure", "value"), *summary_rows(listing, packets)]).encode()
+
+
+def percent(part, whole):
+    return f"{part} ({part * 1000 // whole // 10}.{part * 1000 // whole % 10} %)"
+
+
+def summary_of(listing, packets):
+    """The summary of a listing as text."""
+    rows = {(subject, key, measure): number for subject, key, measure, number in summary_rows(listing, packets)}
+    text = ""
+    for (subject, key, measure), number in rows.items():
+        of = lambda other: rows[(subject, key, other)]
+        if (subject, key, measure) == ("frames", "", "accepted"):
+            whole = number + of("refused")
+            text += f"frames {whole}: accepted {percent(number, whole)}, refused {percent(of('refused'), whole)}\n"
+        elif subject == "frames" and key != "":
+            text += f"refused with {key}: {number}\n"
+        elif subject == "channel" and measure == "frames":
+            text += f"channel {key}: frames {number}, lost {percent(of('lost'), number + of('lost'))}, unknown {of('unknown')}\n"
+        elif subject == "all" and measure == "lost":
+            text += f"all channels: lost {percent(number, rows[('frames', '', 'accepted')] + number)}, unknown {of('unknown')}\n"
+        elif (subject, key, measure) == ("packets", "", "read"):
+            whole = number + of("turned away")
+            text += f"packets {whole}: read {percent(number, whole)}, turned away {percent(of('turned away'), whole)}\n"
+        elif subject == "packets" and measure == "read":
+            text += "APID {} ({},{}): {}\n".format(*key.split("/"), number)
+        elif subject == "packets" and key != "":
+            text += f"turned away with {key}: {number}\n"
+        elif subject == "apid" and measure == "missing":
+            text += f"APID {key}: missing {number}, restarted {of('restarted')}\n"
+        elif subject == "image":
+            text += f"image {key}: {number} of 120 lines\n"
+    return text.encode()
