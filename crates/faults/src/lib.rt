@@ -241,11 +241,11 @@ fn say_look(name: &[u8], line: &[u8]) {
 // Says that of so many frames none was accepted, and that t may be wrong, which came with a source.
 pub fn tell_none(name: &[u8], frames: u32, source: Source, t: u8) {
     io::write_all(STDERR_FILENO, name);
-    io::write_all(STDERR_FILENO, b": no frame was accepted, 0 of ");
+    io::write_all(STDERR_FILENO, b": no frame was accepted of the ");
     io::print_decimal(STDERR_FILENO, frames as u64);
     io::write_all(
         STDERR_FILENO,
-        b"; if the listing says 14, t may be wrong: it is ",
+        b" that came; if the listing says 14, t may be wrong: it is ",
     );
     io::print_decimal(STDERR_FILENO, t as u64);
     match source {
