@@ -1,1 +1,2 @@
 // No code: what damage to a packet or a frame its check always shows.
+#![tactic(auto)]

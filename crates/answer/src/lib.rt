@@ -1,4 +1,6 @@
 // The paper's refusal numbers, in the order of its table, a refusal that tells an octet, and the answer of every writer.
+#![tactic(auto)]
+
 ghost use Rattle.std.specs.Prelude.{◌≡◌};
 ghost use Rattle.answer.specs.Told.{plain};
 

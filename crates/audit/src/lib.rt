@@ -1,6 +1,8 @@
 // The program: a training table, the file of its first word, against the input that its further words name, on standard input; the verdict
 // on
 // standard output. The linker calls this function main, and what it answers is the exit status.
+#![tactic(auto)]
+
 use libc::STDIN_FILENO;
 
 #[unsafe(no_mangle)]

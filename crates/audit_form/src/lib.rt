@@ -1,6 +1,8 @@
 // The first reading of a training table: its form, read by a descriptor in pieces, up to the file's end.
 //
 // Crate table says what is kept of the pieces. Here is the loop: one read after another, until one brings nothing or fails.
+#![tactic(auto)]
+
 ghost use Rattle.std.specs.Prelude.{◌≡◌};
 ghost use Rattle.audit_form.specs.Reads.{brought, Grows, Looped};
 

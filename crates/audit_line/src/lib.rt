@@ -1,4 +1,6 @@
 // The verdict on a training table as one line of text, put into lent octets from an index on.
+#![tactic(auto)]
+
 ghost use Rattle.std.specs.Prelude.{◌+◌, ◌≤◌, length};
 ghost use Rattle.decimal.specs.Laid.{Laid, Puts};
 ghost use Rattle.audit_line.specs.Text.{longest_words, longest_verdict, words_of, spoken, verdict_line};

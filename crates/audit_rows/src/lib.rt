@@ -1,6 +1,8 @@
 // The second reading of a training table: its rows, read by a descriptor in pieces, beside the packets that are handed out.
 //
 // Crate table says what the verdict is. Here its calls are made one after another, each on what the one before left.
+#![tactic(auto)]
+
 ghost use Rattle.std.specs.Prelude.{◌≡◌, false, [], ◌∷◌};
 ghost use Rattle.table.specs.Look.{handed};
 ghost use Rattle.audit_rows.specs.Goes.{fresh, stopped, Turns, Goes, Fills, Ends};

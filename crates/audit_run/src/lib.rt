@@ -1,6 +1,8 @@
 // Checks a training table, a file, against a recording or a stream that comes by a descriptor, and writes the verdict as one line.
 //
 // Crate table says what the verdict is. The file is opened once and read twice: first for its form, then its rows beside the packets.
+#![tactic(auto)]
+
 ghost use Rattle.std.specs.Prelude.{◌≤◌, ◌≡◌, length, take};
 ghost use Rattle.session.specs.Lent.{lent};
 ghost use Rattle.audit_line.specs.Text.{longest_verdict, verdict_line};

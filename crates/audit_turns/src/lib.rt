@@ -1,4 +1,6 @@
 // A turn of the second reading of a training table: a pull at the input, and the rows beside the packets that it handed out.
+#![tactic(auto)]
+
 ghost use Rattle.std.specs.Prelude.{◌≡◌};
 ghost use Rattle.session.specs.Lent.{lent};
 ghost use Rattle.audit_turns.specs.Turns.{begun, Heeds, Turned};

@@ -1,4 +1,6 @@
 // Three counters that run apart and are never compared with one another.
+#![tactic(auto)]
+
 ghost use Rattle.std.specs.Prelude.{◌≡◌};
 ghost use Rattle.counts.specs.Gap.{gap};
 ghost use Rattle.counts.specs.Lost.{last_of, lost_since, number};

@@ -1,4 +1,6 @@
 // The packet check, half an octet at a time by a table of sixteen words, and the frame check, eight octets at a time.
+#![tactic(auto)]
+
 ghost use Rattle.std.specs.Prelude.{◌≡◌, ◌+◌, ◌*◌, ◌/◌, ◌≤◌, length, take, drop};
 ghost use Rattle.bits.specs.Rows.{bits_of, bits_of_all, zeros};
 ghost use Rattle.crc.specs.Check.{run, register, packet_check, frame_check};

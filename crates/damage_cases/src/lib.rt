@@ -1,4 +1,6 @@
 // Damage: bits of octets that a reader accepts are changed, and what the reader then says.
+#![tactic(auto)]
+
 use format_cases::{frames, packets};
 use frame::{Frame, FrameRead};
 use packet::{Packet, PacketRead};

@@ -1,4 +1,6 @@
 // Numbers as decimal text, put into lent octets and read from them.
+#![tactic(auto)]
+
 ghost use Rattle.std.specs.Prelude.{◌≡◌, [], ◌∷◌, ◌++◌, ◌+◌, ◌*◌, ◌≤◌, length};
 ghost use Rattle.octets.specs.Parts.{overlay};
 ghost use Rattle.decimal.specs.Text.{longest_number, decimal, each};

@@ -1,5 +1,7 @@
 // The program: a recording on standard input, its listing on standard output. The linker calls this function main, and what it answers is the
 // exit status.
+#![tactic(auto)]
+
 use libc::STDIN_FILENO;
 
 #[unsafe(no_mangle)]

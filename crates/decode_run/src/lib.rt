@@ -2,6 +2,8 @@
 //
 // What is told is listing's. Here is the loop: each turn goes on with the run that the turns before it made, and no octet is read while
 // text is unwritten. What the system's read and write did is for them to answer: the state holds what they answered last.
+#![tactic(auto)]
+
 ghost use Rattle.std.specs.Prelude.{◌≡◌, ◌≤◌, false, [], length, take};
 ghost use Rattle.listing_lines.specs.Text.{header};
 ghost use Rattle.window.specs.Window.{Refills};

@@ -1,6 +1,8 @@
 // The program: a stream on standard input, of the kind and with the t that its words tell, its listing on standard output; the linker calls
 // this function main, and what it answers is the exit status. decode's twin for streams: a program that lists recordings alone is the faster
 // for it.
+#![tactic(auto)]
+
 use libc::STDIN_FILENO;
 
 #[unsafe(no_mangle)]

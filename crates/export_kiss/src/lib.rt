@@ -1,5 +1,7 @@
 // The program: a recording on standard input, its accepted frames as a KISS stream on standard output, with the word both 0xC0 before each
 // frame as well as behind it. The linker calls this function main, and what it answers is the exit status.
+#![tactic(auto)]
+
 use libc::STDIN_FILENO;
 
 #[unsafe(no_mangle)]

@@ -3,6 +3,8 @@
 // What is written of a frame is kiss_export's. A frame that is refused is left out and told on standard error.
 //
 // What computes is apart from what writes: a section leaves its octets in the output, and a turn writes them.
+#![tactic(auto)]
+
 ghost use Rattle.std.specs.Prelude.{◌≡◌, ◌≤◌, length};
 ghost use Rattle.octets.specs.Pick.{pick};
 ghost use Rattle.export_kiss_run.specs.Turns.{room, Fits, HandsOn, leads, led_to, Sections, Said};

@@ -1,5 +1,7 @@
 // Why a recording is bad, for people: said on standard error, behind the program's name, with the octet of the input; and what an input
 // looks like that is of another kind than was said.
+#![tactic(auto)]
+
 ghost use Rattle.std.specs.Prelude.{◌≡◌, length};
 ghost use Rattle.faults.specs.Why.{settings_why, frame_why, why_at, before, goes_on, stops_at};
 

@@ -1,4 +1,6 @@
 // Frames from a descriptor: a call goes on with one section of the octets at hand, and reads once if octets are missing.
+#![tactic(auto)]
+
 ghost use Rattle.std.specs.Prelude.{◌≡◌};
 ghost use Rattle.session.specs.Lent.{lent};
 ghost use Rattle.feed.specs.Pull.{fresh, Tells, ReadsOn, Pulls};

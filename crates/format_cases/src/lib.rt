@@ -1,4 +1,6 @@
 // The cases of frames, packets and reports.
+#![tactic(auto)]
+
 pub mod frames;
 pub mod packets;
 pub mod reports;

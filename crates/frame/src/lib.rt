@@ -1,4 +1,6 @@
 // Frames: read, written, and their data and time found. No function here asks anything of a caller.
+#![tactic(auto)]
+
 ghost use Rattle.std.specs.Prelude.{◌≡◌};
 ghost use Rattle.frame.specs.Frame.{told, read_frame, data_of, time_of};
 ghost use Rattle.frame.specs.Write.{WroteFrame};

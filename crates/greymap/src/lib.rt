@@ -1,4 +1,6 @@
 // An image as a binary greymap (PGM, P5), with its line numbers as decimal text beside it: written into lent octets, and read back.
+#![tactic(auto)]
+
 ghost use Rattle.std.specs.Prelude.{◌≡◌, ◌≤◌, length};
 ghost use Rattle.octets.specs.Parts.{put, written};
 ghost use Rattle.image.specs.Line.{image_lines, image_of};

@@ -1,4 +1,6 @@
 // One image, filled line by line in lent octets, with the arrival number of each line in a lent list.
+#![tactic(auto)]
+
 ghost use Rattle.std.specs.Prelude.{◌≡◌, length, ◌≤◌, ◌<◌};
 ghost use Rattle.image.specs.Line.{image_lines, image_of, line_of, held_otherwise, number, placed, Fits};
 ghost use Rattle.image.specs.Placing.{observed, placing, brought, Places};

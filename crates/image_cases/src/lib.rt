@@ -1,4 +1,6 @@
 // The sequence gap, and placing a line: calls on lent lists, which are printed whole.
+#![tactic(auto)]
+
 use counts::SequenceCount;
 use image::Placed;
 use records::{input, places, text};

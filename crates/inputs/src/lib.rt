@@ -1,4 +1,6 @@
 // Which input a program's words name: a recording, or with --kiss T or --bits T a stream whose frames end with T octets of time.
+#![tactic(auto)]
+
 ghost use Rattle.std.specs.Prelude.{◌≡◌};
 ghost use Rattle.inputs.specs.Words.{time_of, wrong_words, none_named, receiver_of};
 

@@ -1,4 +1,6 @@
 // Frames as KISS hands them on, found in a stream of octets. No public function asks anything of a caller.
+#![tactic(auto)]
+
 ghost use Rattle.std.specs.Prelude.{◌≡◌, ◌+◌, ◌≤◌, min, length};
 ghost use Rattle.kiss.specs.Reader.{standing, reader, fresh, meant, misplaced, frame_length, sealed, scanned_by, outcome, closed};
 ghost use Rattle.kiss.specs.Reader.{scanned};

@@ -1,4 +1,6 @@
 // Frames written as KISS hands them on. No public function asks anything of a caller.
+#![tactic(auto)]
+
 ghost use Rattle.std.specs.Prelude.{◌≡◌, length};
 ghost use Rattle.rules.specs.Packets.{cut, total};
 ghost use Rattle.kiss_writer.specs.Export.{told, first_bad, Exports};

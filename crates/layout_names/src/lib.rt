@@ -1,4 +1,6 @@
 // The names of a layout's entries: which one stands there twice, and how many lines stand before it. Nothing asks anything of a caller.
+#![tactic(auto)]
+
 ghost use Rattle.std.specs.Prelude.{◌≡◌, ◌-◌};
 ghost use Rattle.octets.specs.Numbers.{at};
 ghost use Rattle.octets.specs.Parts.{part};

@@ -1,4 +1,6 @@
 // Lengths lent beside octets that stand end to end.
+#![tactic(auto)]
+
 ghost use Rattle.std.specs.Prelude.{◌≡◌};
 ghost use Rattle.lengths.specs.Lengths.{lengths_wrong};
 

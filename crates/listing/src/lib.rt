@@ -1,6 +1,8 @@
 // Lists what a source tells, in pieces: a step by value, without reading or writing a file.
 //
 // source says where frames stand, listing_lines writes the text of a line, session takes the frames, and packet reads the packets.
+#![tactic(auto)]
+
 ghost use Rattle.std.specs.Prelude.{◌+◌, ◌*◌, ◌≤◌, ◌≡◌, length, take};
 ghost use Rattle.decimal.specs.Laid.{Laid, Puts};
 ghost use Rattle.rules.specs.Packets.{total};

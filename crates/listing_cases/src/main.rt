@@ -1,4 +1,6 @@
 // Lists the recordings and streams of data/ one after another, each behind its name: good ones, and bad ones of every kind.
+#![tactic(auto)]
+
 use libc::STDOUT_FILENO;
 use receiver::Receiver;
 

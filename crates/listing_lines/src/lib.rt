@@ -1,4 +1,6 @@
 // The listing's lines as text, each put into lent octets from an index on.
+#![tactic(auto)]
+
 ghost use Rattle.std.specs.Prelude.{◌≡◌, [], ◌∷◌, ◌++◌, ◌+◌, ◌≤◌, length, ltb};
 ghost use Rattle.decimal.specs.Text.{longest_number, decimal, each};
 ghost use Rattle.decimal.specs.Laid.{Laid, Puts};

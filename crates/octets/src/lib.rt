@@ -1,4 +1,6 @@
 // Numbers as octets, high octet first, and parts of lent octets. Nothing here asks anything of a caller.
+#![tactic(auto)]
+
 ghost use Rattle.std.specs.Prelude.{◌≡◌};
 ghost use Rattle.octets.specs.Numbers.{word, four, five, word_of, four_of, five_of};
 ghost use Rattle.octets.specs.Parts.{part, put};

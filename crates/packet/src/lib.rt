@@ -1,4 +1,6 @@
 // The packet: its reader, refusals 20 to 22, and its writer, refusals 51 and 50.
+#![tactic(auto)]
+
 ghost use Rattle.std.specs.Prelude.{◌≡◌, length, ◌≤◌};
 ghost use Rattle.octets.specs.Parts.{written};
 ghost use Rattle.bits.specs.Rows.{zeros};

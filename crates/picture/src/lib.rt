@@ -1,5 +1,7 @@
 // The program: the words IMAGE and greymap or lines, and then those that name the input on standard input: an image of it as a greymap, or
 // its line numbers, on standard output. The linker calls this function main, and what it answers is the exit status.
+#![tactic(auto)]
+
 use libc::STDIN_FILENO;
 
 #[unsafe(no_mangle)]

@@ -1,5 +1,7 @@
 // The reader and the writer of pictures. A greymap or an image stands in a record in runs, each of four octets: 256 times its length, and
 // its octet.
+#![tactic(auto)]
+
 use greymap::{PictureRead, PictureWritten};
 use records::{input, places, text};
 

@@ -1,5 +1,7 @@
 // The packets of an accepted frame placed in an image. What is refused is counted by its number, and the images are noted of which lines
 // came that are not the wanted one's.
+#![tactic(auto)]
+
 ghost use Rattle.std.specs.Prelude.{◌≡◌, take};
 ghost use Rattle.picture_frame.specs.Received.{received, image_in, leaving, all_placed, packets_in};
 

@@ -1,6 +1,8 @@
 // The images of which lines came, in a lent list, and the line that tells them where no line of the wanted image was received.
 //
 // The list has places: an image is held as one more than its number, and 0 is a free place.
+#![tactic(auto)]
+
 ghost use Rattle.std.specs.Prelude.{◌≡◌, ◌∷◌, ◌++◌, ◌+◌, ◌-◌, ◌*◌, ◌≤◌, length, take};
 ghost use Rattle.decimal.specs.Text.{longest_number, decimal};
 ghost use Rattle.decimal.specs.Laid.{Laid, Puts};

@@ -2,6 +2,8 @@
 // the image is written as a greymap, or its line numbers as text.
 //
 // What computes is apart from what writes: nothing is written before the input's end, and nothing at all if a read failed.
+#![tactic(auto)]
+
 ghost use Rattle.std.specs.Prelude.{◌≡◌};
 ghost use Rattle.session.specs.Lent.{lent, Enough};
 ghost use Rattle.picture_frame.specs.Received.{received};

@@ -1,4 +1,6 @@
 // Recordings of raw bits, the earliest bit in the top of each octet: the frames in them are found.
+#![tactic(auto)]
+
 ghost use Rattle.std.specs.Prelude.{◌≡◌, true, false, length, set, ◌*◌, ◌<◌};
 ghost use Rattle.bits.specs.Rows.{digit};
 ghost use Rattle.rawbits.specs.Eight.{eight_passed, Eights};

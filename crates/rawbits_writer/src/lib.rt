@@ -1,4 +1,6 @@
 // Frames written as raw bits, the earliest bit in the top of each octet. No public function asks anything of a caller.
+#![tactic(auto)]
+
 ghost use Rattle.std.specs.Prelude.{◌≡◌};
 ghost use Rattle.rawbits_writer.specs.Stream.{any_outside, WroteFrames};
 

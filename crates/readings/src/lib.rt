@@ -1,5 +1,7 @@
 // The program: the layouts in the file of its first word, and what comes on standard input, a recording or what its further words name; its
 // readings on standard output. The linker calls this function main, and what it answers is the exit status.
+#![tactic(auto)]
+
 use libc::STDIN_FILENO;
 
 #[unsafe(no_mangle)]

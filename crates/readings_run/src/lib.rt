@@ -1,5 +1,7 @@
 // Readings of a recording: every (3,25) packet that is handed out is read by the layout for its APID and SID, and each value is one line of
 // CSV with the packet's first and last arrival numbers. What is refused is counted.
+#![tactic(auto)]
+
 ghost use Rattle.std.specs.Prelude.{◌≡◌, slice_set};
 
 use layouts::LayoutsRead;

@@ -1,4 +1,6 @@
 // The loop of the readings: each turn takes one section of a recording, adds what it hands out to the text, and counts what is refused.
+#![tactic(auto)]
+
 mod section;
 
 ghost use Rattle.std.specs.Prelude.{◌≡◌};

@@ -1,4 +1,6 @@
 // Receives frames: what a source tells opens a session or is offered to it, one section of the octets at hand a call.
+#![tactic(auto)]
+
 ghost use Rattle.session.specs.Lent.{lent};
 ghost use Rattle.source.specs.Scan.{fresh_kiss, fresh_bits};
 ghost use Rattle.receiver.specs.Receive.{fresh, Begins, frame_of, stretch_of, Offers, Receives};

@@ -1,5 +1,7 @@
 // A recording's sections in a window of octets.
 // Nothing here reads a file: a window is octets read and not yet used.
+#![tactic(auto)]
+
 ghost use Rattle.std.specs.Prelude.{◌≡◌};
 ghost use Rattle.recording.specs.Reader.{scanned, waiting, stopped};
 ghost use Rattle.recording.specs.Sections.{told, settings_at, count_at, frame_at};

@@ -1,4 +1,6 @@
 // The reports: one reader, refusals 20 to 22 and 30 to 32, and a writer for each, refusals 51 and 50.
+#![tactic(auto)]
+
 ghost use Rattle.std.specs.Prelude.{◌≡◌, ◌≤◌};
 ghost use Rattle.octets.specs.Numbers.{at, word};
 ghost use Rattle.report.specs.Report.{told, content_of, read_content, read_report};

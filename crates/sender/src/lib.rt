@@ -1,4 +1,6 @@
 // The sender for the test bench: the frames of one channel, made from packets by the rules. No public function asks anything of a caller.
+#![tactic(auto)]
+
 ghost use Rattle.std.specs.Prelude.{◌≡◌};
 ghost use Rattle.sender.specs.Frames.{wanted};
 ghost use Rattle.sender.specs.Send.{lent, observed, sending, Emptied};

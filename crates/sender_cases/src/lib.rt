@@ -1,4 +1,6 @@
 // The sender for the test bench.
+#![tactic(auto)]
+
 use counts::{ChannelCount, MasterCount};
 use format_cases::frames;
 use records::{input, places, text};

@@ -1,4 +1,6 @@
 // The sequence gap of each APID over a lent list of its last counts.
+#![tactic(auto)]
+
 ghost use Rattle.std.specs.Prelude.{◌≡◌};
 ghost use Rattle.sequence.specs.Sequence.{told, since, observed, outcome};
 

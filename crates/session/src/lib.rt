@@ -1,4 +1,6 @@
 // A session: eight virtual channels that take frames one after another and hand out packets.
+#![tactic(auto)]
+
 ghost use Rattle.std.specs.Prelude.{◌≡◌};
 ghost use Rattle.session.specs.Channel.{unsound};
 ghost use Rattle.session.specs.Open.{opened, Opens};

@@ -1,4 +1,6 @@
 // Opening a session, giving one as it stands, and steps. Each prints the session whole, and answers it.
+#![tactic(auto)]
+
 use counts::{ChannelCount, Loss, MasterCount};
 use format_cases::frames;
 use records::{input, places, text};

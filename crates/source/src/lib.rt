@@ -1,4 +1,6 @@
 // Where frames come from: what stands at the start of the octets at hand, whatever format the input has.
+#![tactic(auto)]
+
 ghost use Rattle.std.specs.Prelude.{◌≡◌};
 ghost use Rattle.source.specs.Found.{cut_at};
 ghost use Rattle.source.specs.Scan.{taken_of, stream_taken, fresh, fresh_kiss, fresh_bits, Scans};

@@ -1,4 +1,6 @@
 // The readers of streams and their writers.
+#![tactic(auto)]
+
 use format_cases::{frames, packets};
 use kiss_writer::Exported;
 use records::{input, places, text};

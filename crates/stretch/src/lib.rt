@@ -1,4 +1,5 @@
 // What readers of streams find between two marks.
+#![tactic(auto)]
 
 // How many octets of a frame a reader keeps: the longest frame and one more.
 pub const KEPT: usize = 275;

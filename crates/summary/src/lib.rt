@@ -1,5 +1,7 @@
 // The program: the word text or csv, and then those that name the input on standard input: the counts of it, as text or as CSV, on standard
 // output. The linker calls this function main, and what it answers is the exit status.
+#![tactic(auto)]
+
 #[unsafe(no_mangle)]
 pub extern "C" fn ametzuko_summary() -> i32 {
     if inputs::refused(b"summary", 2) {

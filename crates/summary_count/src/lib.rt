@@ -1,4 +1,6 @@
 // What a session answers and the packets that it hands out, counted in lent lists.
+#![tactic(auto)]
+
 ghost use Rattle.std.specs.Prelude.{◌≡◌};
 ghost use Rattle.summary_count.specs.Count.{ledger, answer_counted};
 

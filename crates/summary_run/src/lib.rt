@@ -2,6 +2,8 @@
 // are written.
 //
 // What computes is apart from what writes: nothing is written before the input's end, and nothing at all if a read failed.
+#![tactic(auto)]
+
 ghost use Rattle.std.specs.Prelude.{◌≡◌};
 ghost use Rattle.session.specs.Lent.{lent, Enough};
 ghost use Rattle.summary_count.specs.Count.{tally, ledger};

@@ -1,4 +1,6 @@
 // The summary of what was received, as text and as CSV, put into lent octets.
+#![tactic(auto)]
+
 ghost use Rattle.summary_pen.specs.Page.{Shows, page, Says};
 ghost use Rattle.summary_pen.specs.Choice.{form};
 ghost use Rattle.summary_text.specs.Text.{whole, summary_of, csv_of, of_frames, of_packets, of_others};

@@ -1,5 +1,7 @@
 // The training table: the form of its file, then its rows beside the packets as they are handed out. Refusals 70 to 74.
 // Nothing here reads a file: the table comes in pieces, twice.
+#![tactic(auto)]
+
 ghost use Rattle.std.specs.Prelude.{◌+◌, ◌*◌, ◌≤◌, ◌<◌, min, ◌≡◌, true, [], length, drop};
 ghost use Rattle.std.proofs.Math.Option.{some};
 ghost use Rattle.std.proofs.Math.ListN.{get_elem?};

@@ -1,4 +1,6 @@
 // What is told on standard error, behind the program's name, and counts of what is refused, by its number.
+#![tactic(auto)]
+
 ghost use Rattle.std.specs.Prelude.{◌≡◌};
 ghost use Rattle.telling.specs.Counts.{counted, next_of};
 

@@ -1,6 +1,8 @@
 // The frames that a script has made, laid out as a recording: those that the link does not lose.
 //
 // No public function asks anything of a caller.
+#![tactic(auto)]
+
 ghost use Rattle.std.specs.Prelude.{◌≡◌, ◌+◌, ◌-◌, ◌*◌, ◌%◌, ◌^◌, ◌≤◌, length};
 ghost use Rattle.transmit_recording.specs.Recording.{lost_at, marked, losing, arrivals_of, arrivals, head_of, behind_of};
 ghost use Rattle.transmit_recording.specs.Laid.{LaysOne, LaysFrames, Lays};

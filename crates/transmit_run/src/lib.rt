@@ -1,6 +1,8 @@
 // A script of the test bench, made into a recording: settings, packets, and steps that the sender makes frames of, a line each.
 //
 // What the frames are is sender's. Here are the lines.
+#![tactic(auto)]
+
 ghost use Rattle.std.specs.Prelude.{◌≡◌, ◌+◌, ◌-◌, ◌*◌, ◌≤◌, length};
 ghost use Rattle.transmit_steps.specs.Step.{lent};
 ghost use Rattle.transmit_recording.specs.Recording.{recording_of};

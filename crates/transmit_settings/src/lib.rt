@@ -1,4 +1,6 @@
 // What a script for the test bench has set and made so far, and the lines that set it. No function here asks anything of a caller.
+#![tactic(auto)]
+
 ghost use Rattle.std.specs.Prelude.{◌≡◌, length, slice_index_or};
 ghost use Rattle.words.specs.Octets.{hex_left};
 ghost use Rattle.words.specs.Words.{space};

@@ -1,6 +1,8 @@
 // The lines of a script, each a step: what it sets, the packets that wait, the frames that it makes.
 //
 // No public function asks anything of a caller.
+#![tactic(auto)]
+
 ghost use Rattle.std.specs.Prelude.{◌≡◌, ◌||◌, length, take, eqb};
 ghost use Rattle.octets.specs.Numbers.{at};
 ghost use Rattle.transmit_steps.specs.Step.{

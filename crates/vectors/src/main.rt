@@ -1,4 +1,6 @@
 // Runs the cases that stand on standard input through the public calls, and prints one line a case.
+#![tactic(auto)]
+
 use format_cases::{frames, packets, reports};
 use libc::STDIN_FILENO;
 use records::{input, kinds, places, text};

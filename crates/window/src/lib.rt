@@ -1,6 +1,8 @@
 // The input's window and the output: the octets at hand are kept while more are read, and what fails is told.
 //
 // The octets at hand are those of an input buffer from an index at up to an index end, as far as they are there.
+#![tactic(auto)]
+
 ghost use Rattle.std.specs.Prelude.{◌+◌, ◌≤◌, ◌≡◌, length, take, drop};
 ghost use Rattle.window.specs.Window.{hand, Refills, unread, unwritten};
 

@@ -1,4 +1,6 @@
 // Words, numbers and octets in a line of text. Nothing here asks anything of a caller.
+#![tactic(auto)]
+
 ghost use Rattle.std.specs.Prelude.{◌≡◌, false, ◌*◌, ◌≤◌, length};
 ghost use Rattle.octets.specs.Parts.{written};
 ghost use Rattle.words.specs.Octets.{digit_of, other_than_hex, octets_of, hex_count, hex_left};

@@ -11,35 +11,35 @@ use borrow.Author.Rules.{rules}
 use Rattle.audit_form.proofs.form.Statement.{statement}
 use Rattle.audit_form.proofs.form.Tie as tie
 
-abbrev invariant-loop : tie.invariant-loop
+abbrev invariant-loop : tie.invariant-loop-reading
 invariant-loop name table buffer₀ reading₀ made₀ buffer reading made =
     (length buffer ≡ length buffer₀) × (made ≤ most) × Made goingAt GrowsAt (place reading₀ buffer₀) made (place reading buffer)
 
-abbrev decreases-loop : tie.decreases-loop
+abbrev decreases-loop : tie.decreases-loop-reading
 decreases-loop name table buffer₀ reading₀ made₀ buffer reading made = most - made
 
-loop-holds : tie.Need-loop-init invariant-loop decreases-loop
+loop-holds : tie.Need-loop-reading-init invariant-loop decreases-loop
 loop-holds c = (refl, omega arith, at_first)
 
-returns : tie.Need-returns invariant-loop decreases-loop
+returns : tie.Need-returns-then-made invariant-loop decreases-loop
 returns c =
-    let c3 = c.before.before.before in
-    let c4 = c3.before in
-    begun (at-start c4.fresh.ensures c3.none.ensures) (all_made c.before.before.loop.invariant.2 c.if1.true)
+    let c3 = c in
+    let c4 = c3 in
+    begun (at-start c4.fresh-fresh.ensures c3.none-none.ensures) (all_made c.loop-reading.invariant.2 c.if-made.true)
 
-loop-again : tie.Need-loop-preserved invariant-loop decreases-loop
+loop-again : tie.Need-loop-reading-preserved invariant-loop decreases-loop
 loop-again c =
-    let l = c.before.before.before.before.before.before.loop in
-    let t = c.before.before.more in (
+    let l = c.loop-reading in
+    let t = c.more-reading in (
       t.auto.1.1.1.0 ∙ l.invariant.0,
-      omega (arith, l.invariant.1, c.before.before.before.before.if1.false),
-      one_more l.invariant.2 c.before.before.before.before.before.loop-test.true (record { grows = t.ensures; silent = refl }),
+      omega (arith, l.invariant.1, c.if-made.false),
+      one_more l.invariant.2 c.loop-reading-test.true (record { grows = t.ensures; silent = refl }),
     )
 
-returns-2 : tie.Need-returns-2 invariant-loop decreases-loop
+returns-2 : tie.Need-returns invariant-loop decreases-loop
 returns-2 c =
-    let c3 = c.before.before.before in
-    begun (at-start c3.fresh.ensures c.before.before.none.ensures) (stopped c.before.loop.invariant.2 c.loop-test.false)
+    let c3 = c in
+    begun (at-start c3.fresh-fresh.ensures c.none-none.ensures) (stopped c.loop-reading.invariant.2 c.loop-reading-test.false)
 
 pub form_spec : {M : Type 1} → statement M
 form_spec =

@@ -5,36 +5,36 @@ use Rattle.audit_line.proofs.Lines.{row_near, reason_near, faulty-laid}
 use Rattle.audit_line.proofs.faulty.Statement.{statement}
 use Rattle.audit_line.proofs.faulty.Tie as tie
 
-add-number-2 : tie.Need-overflow-add-number-2
+add-number-2 : tie.Need-overflow_add-next
 add-number-2 c =
-    let c8 = c.before.before.before.before.before.before.before.before in
-    let c12 = c8.before.before.before.before in
-    let s = c12.before.before.before.before in
-    omega (arith, row_near s.args.at s.args.row (omega (arith, s.requires, c12.put.auto.0)) c8.number.ensures, s.requires)
+    let c8 = c in
+    let c12 = c8 in
+    let s = c12 in
+    omega (arith, row_near s.args.at s.args.row (omega (arith, s.requires, c12.put.auto.0)) c8.number-next.ensures, s.requires)
 
 words-requires : tie.Need-words-requires
 words-requires c κs =
-    let c3 = c.before.before.before in
-    let c7 = c3.before.before.before.before in
-    let c12 = c7.before.before.before.before.before in
-    let c16 = c12.before.before.before.before in
-    let s = c16.before.before.before.before in
+    let c3 = c in
+    let c7 = c3 in
+    let c12 = c7 in
+    let c16 = c12 in
+    let s = c16 in
     let room₁ = c16.put.auto.0 in
-    let room₂ = c12.number.auto.0 in
-    let room₃ = c7.put2.auto.0 in
-    let near = row_near s.args.at s.args.row (omega (arith, s.requires, room₁)) c12.number.ensures in
-    let last = reason_near s.args.at s.args.reason (omega (arith, s.requires, room₁, room₂, room₃)) near c3.number2.ensures in
-    omega (arith, last, s.requires, room₁, room₂, room₃, c3.number2.auto.0)
+    let room₂ = c12.number-next.auto.0 in
+    let room₃ = c7.put-2.auto.0 in
+    let near = row_near s.args.at s.args.row (omega (arith, s.requires, room₁)) c12.number-next.ensures in
+    let last = reason_near s.args.at s.args.reason (omega (arith, s.requires, room₁, room₂, room₃)) near c3.number-last.ensures in
+    omega (arith, last, s.requires, room₁, room₂, room₃, c3.number-last.auto.0)
 
 returns : tie.Need-returns
 returns c =
-    let c6 = c.before.before.before.before.before.before in
-    let c10 = c6.before.before.before.before in
-    let c15 = c10.before.before.before.before.before in
-    let c19 = c15.before.before.before.before in
-    let s = c19.before.before.before.before in
-    faulty-laid s.args.reason s.args.row s.requires c19.put.auto.0 c15.number.auto.0 c10.put2.auto.0
-    c19.put.ensures c15.number.ensures c10.put2.ensures c6.number2.ensures c.before.before.words.ensures
+    let c6 = c in
+    let c10 = c6 in
+    let c15 = c10 in
+    let c19 = c15 in
+    let s = c19 in
+    faulty-laid s.args.reason s.args.row s.requires c19.put.auto.0 c15.number-next.auto.0 c10.put-2.auto.0
+    c19.put.ensures c15.number-next.ensures c10.put-2.ensures c6.number-last.ensures c.words.ensures
 
 pub faulty_spec : {M : Type 1} → statement M
 faulty_spec =

@@ -6,17 +6,17 @@ use Rattle.audit_line.proofs.Lines.{passes-put, faulty-put}
 use Rattle.audit_line.proofs.line.Statement.{statement}
 use Rattle.audit_line.proofs.line.Tie as tie
 
-returns : tie.Need-returns
+returns : tie.Need-returns-then-out-at
 returns c = puts_none (omega arith)
 
-returns-2 : tie.Need-returns-2
+returns-2 : tie.Need-returns-then-out-at-lt-VERDICT
 returns-2 c = puts_none (omega arith)
 
-returns-3 : tie.Need-returns-3
-returns-3 c = passes-put c.before.before.before.before.before.enum_told.given.1 (omega arith) c.before.before.put.ensures
+returns-3 : tie.Need-returns-in-Passes
+returns-3 c = passes-put c.enum_told-1.given.1 (omega arith) c.put.ensures
 
-returns-4 : tie.Need-returns-4
-returns-4 c = faulty-put c.before.before.before.before.before.verdict.given.1 (omega arith) c.before.before.faulty.ensures
+returns-4 : tie.Need-returns-in-Faulty
+returns-4 c = faulty-put c.verdict-1.given.1 (omega arith) c.faulty.ensures
 
 pub line_spec : {M : Type 1} → statement M
 line_spec =

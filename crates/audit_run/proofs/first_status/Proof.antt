@@ -4,20 +4,20 @@ use borrow.Author.Rules.{rules}
 use Rattle.audit_run.proofs.first_status.Statement.{statement}
 use Rattle.audit_run.proofs.first_status.Tie as tie
 
-returns : tie.Need-returns
+returns : tie.Need-returns-then-reading-failed
 returns c =
-    let a = c.before.before.before.before.before.args in
-    first-broken a.formed a.check c.before.before.failed.ensures c.if1.true
+    let a = c.args in
+    first-broken a.formed a.check c.failed.ensures c.if-reading-failed.true
 
-returns-2 : tie.Need-returns-2
+returns-2 : tie.Need-returns-then-check
 returns-2 c =
-    let a = c.before.before.before.before.before.before.args in
-    first_good a.formed a.check c.before.before.before.failed.ensures c.before.if1.false c.if2.true
+    let a = c.args in
+    first_good a.formed a.check c.failed.ensures c.if-reading-failed.false c.if-check.true
 
-returns-3 : tie.Need-returns-3
+returns-3 : tie.Need-returns
 returns-3 c =
-    let a = c.before.before.before.before.before.before.args in
-    first-bad a.formed a.check c.before.before.before.failed.ensures c.before.if1.false c.if2.false
+    let a = c.args in
+    first-bad a.formed a.check c.failed.ensures c.if-reading-failed.false c.if-check.false
 
 pub first_status_spec : {M : Type 1} → statement M
 first_status_spec = tie.close (tie.spec (λ c κs. search rules) returns returns-2 returns-3)

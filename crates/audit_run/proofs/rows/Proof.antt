@@ -12,56 +12,56 @@ use borrow.Author.Rules.{rules}
 use Rattle.audit_run.proofs.rows.Statement.{statement}
 use Rattle.audit_run.proofs.rows.Tie as tie
 
-abbrev invariant-loop : tie.invariant-loop
+abbrev invariant-loop : tie.invariant-loop-state
 invariant-loop name table source input₀ buffer₀ kept₀ octets₀ lengths₀ firsts₀ state₀ made₀ input buffer kept octets lengths firsts state made =
     (length input ≡ length input₀) × (length buffer ≡ length buffer₀) × (length octets ≡ length octets₀)
     × (length lengths ≡ length lengths₀) × (length firsts ≡ length firsts₀) × (made ≤ most)
     × Made going_at TurnedAt (place state₀ input₀ kept₀ (lent octets₀ lengths₀ firsts₀) buffer₀) made
     (place state input kept (lent octets lengths firsts) buffer)
 
-abbrev decreases-loop : tie.decreases-loop
+abbrev decreases-loop : tie.decreases-loop-state
 decreases-loop name table source input₀ buffer₀ kept₀ octets₀ lengths₀ firsts₀ state₀ made₀ input buffer kept octets lengths firsts state made =
     most - made
 
-loop-holds : tie.Need-loop-init invariant-loop decreases-loop
+loop-holds : tie.Need-loop-state-init invariant-loop decreases-loop
 loop-holds c = (refl, refl, refl, refl, refl, omega arith, at_first)
 
-returns : tie.Need-returns invariant-loop decreases-loop
-returns c = began c.before.before.before.fresh.ensures (all_made c.before.before.loop.invariant.6 c.if1.true)
+returns : tie.Need-returns-then-made invariant-loop decreases-loop
+returns c = began c.fresh-state.ensures (all_made c.loop-state.invariant.6 c.if-made.true)
 
-add-made : tie.Need-overflow-add-made invariant-loop decreases-loop
+add-made : tie.Need-overflow_add-made invariant-loop decreases-loop
 add-made c =
-    let c14 = c.before.before.before.before.before.before.before.before.before.before.before.before.before.before in
-    let c17 = c14.before.before.before in
-    let c19 = c17.before.before in
-    omega (arith, c19.loop.invariant.5, c17.if1.false)
+    let c14 = c in
+    let c17 = c14 in
+    let c19 = c17 in
+    omega (arith, c19.loop-state.invariant.5, c17.if-made.false)
 
-loop-less : tie.Need-loop-smaller invariant-loop decreases-loop
+loop-less : tie.Need-loop-state-smaller invariant-loop decreases-loop
 loop-less c =
-    let c14 = c.before.before.before.before.before.before.before.before.before.before.before.before.before.before in
-    let c17 = c14.before.before.before in
-    let c19 = c17.before.before in
-    omega (arith, c19.loop.invariant.5, c17.if1.false)
+    let c14 = c in
+    let c17 = c14 in
+    let c19 = c17 in
+    omega (arith, c19.loop-state.invariant.5, c17.if-made.false)
 
-loop-again : tie.Need-loop-preserved invariant-loop decreases-loop
+loop-again : tie.Need-loop-state-preserved invariant-loop decreases-loop
 loop-again c =
-    let c10 = c.before.before.before.before.before.before.before.before.before.before in
-    let c17 = c10.before.before.before.before.before.before.before in
-    let c18 = c17.before in
-    let c19 = c18.before in
-    let t = c10.turn in
-    let l = c19.loop in (
+    let c10 = c in
+    let c17 = c10 in
+    let c18 = c17 in
+    let c19 = c18 in
+    let t = c10.turn-state in
+    let l = c19.loop-state in (
       t.auto.1.1.1.1.0 ∙ l.invariant.0,
       t.auto.1.1.1.1.1.0 ∙ l.invariant.1,
       t.auto.1.1.1.1.1.1.1.0 ∙ l.invariant.2,
       t.auto.1.1.1.1.1.1.1.1.0 ∙ l.invariant.3,
       t.auto.1.1.1.1.1.1.1.1.1.0 ∙ l.invariant.4,
-      omega (arith, l.invariant.5, c17.if1.false),
-      one_more l.invariant.6 c18.loop-test.true (record { turned = t.ensures; silent = refl }),
+      omega (arith, l.invariant.5, c17.if-made.false),
+      one_more l.invariant.6 c18.loop-state-test.true (record { turned = t.ensures; silent = refl }),
     )
 
-returns-2 : tie.Need-returns-2 invariant-loop decreases-loop
-returns-2 c = began c.before.before.fresh.ensures (stopped c.before.loop.invariant.6 c.loop-test.false)
+returns-2 : tie.Need-returns invariant-loop decreases-loop
+returns-2 c = began c.fresh-state.ensures (stopped c.loop-state.invariant.6 c.loop-state-test.false)
 
 pub rows_spec : {M : Type 1} → statement M
 rows_spec = tie.close (tie.spec

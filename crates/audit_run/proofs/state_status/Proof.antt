@@ -7,53 +7,53 @@ use borrow.Author.Rules.{rules}
 use Rattle.audit_run.proofs.state_status.Statement.{statement}
 use Rattle.audit_run.proofs.state_status.Tie as tie
 
-returns : tie.Need-returns
-returns c = endless c.if1.true refl
+returns : tie.Need-returns-then-state
+returns c = endless c.if-state.true refl
 
-returns-2 : tie.Need-returns-2
+returns-2 : tie.Need-returns-then-failed
 returns-2 c =
-    let c4 = c.before.before.before.before in
-    unread c4.if1.false (not-true _ c.before.before.if2.true) (sym c.before.failed.ensures ∙ c.if3.true) refl
+    let c4 = c in
+    unread c4.if-state.false (not-true _ c.if-not-state.true) (sym c.failed.ensures ∙ c.if-failed.true) refl
 
-returns-3 : tie.Need-returns-3
+returns-3 : tie.Need-returns-then-not-state
 returns-3 c =
-    let c4 = c.before.before.before.before in
-    bad c4.if1.false (not-true _ c.before.before.if2.true) (sym c.before.failed.ensures ∙ c.if3.false) refl
+    let c4 = c in
+    bad c4.if-state.false (not-true _ c.if-not-state.true) (sym c.failed.ensures ∙ c.if-failed.false) refl
 
-returns-4 : tie.Need-returns-4
+returns-4 : tie.Need-returns-then-failed-2
 returns-4 c =
-    let c4 = c.before.before.before.before in
-    lost c4.if1.false (not-false _ c.before.before.if2.false) (sym c.before.failed2.ensures ∙ c.if4.true) refl
+    let c4 = c in
+    lost c4.if-state.false (not-false _ c.if-not-state.false) (sym c.failed-2.ensures ∙ c.if-failed-2.true) refl
 
-returns-5 : tie.Need-returns-5
+returns-5 : tie.Need-returns-then-failed-3
 returns-5 c =
-    let c3 = c.before.before.before in
-    let c4 = c3.before in
-    let c6 = c4.before.before in
-    let c10 = c6.before.before.before.before in
+    let c3 = c in
+    let c4 = c3 in
+    let c6 = c4 in
+    let c10 = c6 in
     let v = c10.args.state.audit.verdict in
-    stands c6.if1.false (not-false _ c4.if2.false) (sym c3.failed2.ensures ∙ c.before.before.if4.false)
-    (status_broken v (sym c.before.failed3.ensures ∙ c.if5.true))
+    stands c6.if-state.false (not-false _ c4.if-not-state.false) (sym c3.failed-2.ensures ∙ c.if-failed-2.false)
+    (status_broken v (sym c.failed-3.ensures ∙ c.if-failed-3.true))
 
-returns-6 : tie.Need-returns-6
+returns-6 : tie.Need-returns-in-Passes
 returns-6 c =
-    let c3 = c.before.before.before in
-    let c4 = c3.before in
-    let c5 = c4.before in
-    let c6 = c5.before in
-    let c8 = c6.before.before in
-    stands c8.if1.false (not-false _ c6.if2.false) (sym c5.failed2.ensures ∙ c4.if4.false)
-    (status_of_lem c.enum_told.given.1 (sym c3.failed3.ensures ∙ c.before.before.if5.false))
+    let c3 = c in
+    let c4 = c3 in
+    let c5 = c4 in
+    let c6 = c5 in
+    let c8 = c6 in
+    stands c8.if-state.false (not-false _ c6.if-not-state.false) (sym c5.failed-2.ensures ∙ c4.if-failed-2.false)
+    (status_of_lem c.enum_told-1.given.1 (sym c3.failed-3.ensures ∙ c.if-failed-3.false))
 
-returns-7 : tie.Need-returns-7
+returns-7 : tie.Need-returns-in-Faulty
 returns-7 c =
-    let c3 = c.before.before.before in
-    let c4 = c3.before in
-    let c5 = c4.before in
-    let c6 = c5.before in
-    let c8 = c6.before.before in
-    stands c8.if1.false (not-false _ c6.if2.false) (sym c5.failed2.ensures ∙ c4.if4.false)
-    (status_of_lem c.enum-told2.given.1 (sym c3.failed3.ensures ∙ c.before.before.if5.false))
+    let c3 = c in
+    let c4 = c3 in
+    let c5 = c4 in
+    let c6 = c5 in
+    let c8 = c6 in
+    stands c8.if-state.false (not-false _ c6.if-not-state.false) (sym c5.failed-2.ensures ∙ c4.if-failed-2.false)
+    (status_of_lem c.enum_told-in-Faulty-1.given.1 (sym c3.failed-3.ensures ∙ c.if-failed-3.false))
 
 pub state_status_spec : {M : Type 1} → statement M
 state_status_spec =

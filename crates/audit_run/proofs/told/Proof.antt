@@ -4,17 +4,17 @@ use borrow.Author.Rules.{rules}
 use Rattle.audit_run.proofs.told.Statement.{statement}
 use Rattle.audit_run.proofs.told.Tie as tie
 
-returns : tie.Need-returns
+returns : tie.Need-returns-then-not-stands
 returns c =
-    let c5 = c.before.before.before.before.before in
-    tells_none c5.args.state c.before.before.stands.ensures c.before.if1.true c.none.ensures
+    let c5 = c in
+    tells_none c5.args.state c.stands.ensures c.if-not-stands.true c.none.ensures
 
-returns-2 : tie.Need-returns-2
+returns-2 : tie.Need-returns
 returns-2 c =
-    let c5 = c.before.before.before.before.before in
-    let c6 = c5.before in
-    let c9 = c6.before.before.before in
-    tells-line c9.args.state c6.stands.ensures c5.if1.false c.before.before.say.ensures
+    let c5 = c in
+    let c6 = c5 in
+    let c9 = c6 in
+    tells-line c9.args.state c6.stands.ensures c5.if-not-stands.false c.say.ensures
 
 pub told_spec : {M : Type 1} → statement M
 told_spec = tie.close (tie.spec (λ c κs. search rules) (λ c κs. search rules) returns (λ c κs. search rules) (λ c. search rules) returns-2)

@@ -4,29 +4,29 @@ use Rattle.audit_turns.proofs.Turning.{heeds-none, heeds-bad, heeds-frame, heeds
 use Rattle.audit_turns.proofs.heed.Statement.{statement}
 use Rattle.audit_turns.proofs.heed.Tie as tie
 
-returns : tie.Need-returns
+returns : tie.Need-returns-in-More
 returns c =
-    let a = c.before.before.before.before.before.args in
-    heeds-none a.audit a.rows.now a.octets.now a.lengths.now a.pull c.match.keys1
+    let a = c.args in
+    heeds-none a.audit a.rows.now a.octets.now a.lengths.now a.pull c.in-More.keys1
 
-returns-2 : tie.Need-returns-2
+returns-2 : tie.Need-returns-in-Answered
 returns-2 c =
-    let c5 = c.before.before.before.before.before in
-    let c11 = c5.before.before.before.before.before.before in
+    let c5 = c in
+    let c11 = c5 in
     let a = c11.args in
-    heeds-frame a.audit a.rows.now a.octets.now a.lengths.now c5.pull.given.1 c.before.before.frame.ensures
+    heeds-frame a.audit a.rows.now a.octets.now a.lengths.now c5.pull-1.given.1 c.frame-next.ensures
 
-returns-3 : tie.Need-returns-3
+returns-3 : tie.Need-returns-in-Bad
 returns-3 c =
-    let a = c.before.before.before.before.before.args in
-    heeds-bad a.audit a.rows.now a.octets.now a.lengths.now a.pull c.match.keys3
+    let a = c.args in
+    heeds-bad a.audit a.rows.now a.octets.now a.lengths.now a.pull c.in-Bad.keys3
 
-returns-4 : tie.Need-returns-4
+returns-4 : tie.Need-returns-in-End
 returns-4 c =
-    let c4 = c.before.before.before.before in
-    let c10 = c4.before.before.before.before.before.before in
+    let c4 = c in
+    let c10 = c4 in
     let a = c10.args in
-    heeds-end a.audit a.rows.now a.octets.now a.lengths.now c4.enum_told.given.1 c.before.before.ended.ensures
+    heeds-end a.audit a.rows.now a.octets.now a.lengths.now c4.enum_told-1.given.1 c.ended-next.ensures
 
 pub heed_spec : {M : Type 1} → statement M
 heed_spec =

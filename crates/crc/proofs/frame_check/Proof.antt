@@ -8,22 +8,22 @@ use Rattle.crc.proofs.Passed.{Passed, passed-more, passed-all}
 use Rattle.crc.proofs.frame_check.Statement.{statement}
 use Rattle.crc.proofs.frame_check.Tie as tie
 
-abbrev invariant-loop : tie.invariant-loop
+abbrev invariant-loop : tie.invariant-loop-i
 invariant-loop octets crc₀ i₀ crc i = Passed low_first octets i crc
 
-abbrev decreases-loop : tie.decreases-loop
+abbrev decreases-loop : tie.decreases-loop-i
 decreases-loop octets crc₀ i₀ crc i = length octets - i
 
-loop-holds : tie.Need-loop-init invariant-loop decreases-loop
-loop-holds c = record { holds = record { fits = omega arith; bits = c.low-eights.ensures } }
+loop-holds : tie.Need-loop-i-init invariant-loop decreases-loop
+loop-holds c = record { holds = record { fits = omega arith; bits = c.low_eights-crc.ensures } }
 
-loop-again : tie.Need-loop-preserved invariant-loop decreases-loop
+loop-again : tie.Need-loop-i-preserved invariant-loop decreases-loop
 loop-again c =
-    passed-more c.before.before.before.loop.invariant c.before.before.loop-test.true
-    (record { fits = omega arith; bits = c.low-octet.ensures })
+    passed-more c.loop-i.invariant c.loop-i-test.true
+    (record { fits = omega arith; bits = c.low_octet-crc.ensures })
 
 returns : tie.Need-returns invariant-loop decreases-loop
-returns c = passed-all c.before.loop.invariant 0xffff c.loop-test.false (lit< tt)
+returns c = passed-all c.loop-i.invariant 0xffff c.loop-i-test.false (lit< tt)
 
 pub frame_check_spec : {M : Type 1} → statement M
 frame_check_spec =

@@ -4,7 +4,7 @@ use Rattle.crc.proofs.Low.{bits_sums_lt, bits_sums_lem}
 use Rattle.crc.proofs.low_bits.Statement.{statement}
 use Rattle.crc.proofs.low_bits.Tie as tie
 
-cast-result : tie.Need-overflow-cast-result
+cast-result : tie.Need-overflow_cast-result
 cast-result c = record { fits = bits_sums_lt c.args.s (search rules) }
 
 returns : tie.Need-returns

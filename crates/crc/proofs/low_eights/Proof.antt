@@ -12,27 +12,27 @@ use Rattle.crc.proofs.Eights.{Stands, stands-more, stands-all, stands-none}
 use Rattle.crc.proofs.low_eights.Statement.{statement}
 use Rattle.crc.proofs.low_eights.Tie as tie
 
-abbrev invariant-loop : tie.invariant-loop
+abbrev invariant-loop : tie.invariant-loop-i
 invariant-loop octets s₀ i₀ s i = Stands octets i s
 
-abbrev decreases-loop : tie.decreases-loop
+abbrev decreases-loop : tie.decreases-loop-i
 decreases-loop octets s₀ i₀ s i = length octets - i
 
-returns : tie.Need-returns invariant-loop decreases-loop
-returns c = stands-none c.before.before.args.octets.now c.if1.true
+returns : tie.Need-returns-then-octets-lt8 invariant-loop decreases-loop
+returns c = stands-none c.args.octets.now c.if-octets-lt8.true
 
-loop-holds : tie.Need-loop-init invariant-loop decreases-loop
-loop-holds c = stands-more _ 0 0xffff c.low-joined.result c.before.if1.false refl refl c.low-joined.ensures
+loop-holds : tie.Need-loop-i-init invariant-loop decreases-loop
+loop-holds c = stands-more _ 0 0xffff c.low_joined.result c.if-octets-lt8.false refl refl c.low_joined.ensures
 
-loop-again : tie.Need-loop-preserved invariant-loop decreases-loop
+loop-again : tie.Need-loop-i-preserved invariant-loop decreases-loop
 loop-again c =
-    stands-more _ c.before.before.before.loop.i c.before.low_zeros.result c.low-joined2.result
-    (omega arith) c.before.before.before.loop.invariant.eights
-    (c.before.low_zeros.ensures ∙ ap (λ (r : List Bool). run r (zeros 64)) c.before.before.before.loop.invariant.holds)
-    c.low-joined2.ensures
+    stands-more _ c.loop-i.i c.low_zeros.result c.low_joined-in-loop-i.result
+    (omega arith) c.loop-i.invariant.eights
+    (c.low_zeros.ensures ∙ ap (λ (r : List Bool). run r (zeros 64)) c.loop-i.invariant.holds)
+    c.low_joined-in-loop-i.ensures
 
-returns-2 : tie.Need-returns-2 invariant-loop decreases-loop
-returns-2 c = c.low-bits.ensures ∙ stands-all c.before.before.loop.invariant c.before.loop-test.false
+returns-2 : tie.Need-returns invariant-loop decreases-loop
+returns-2 c = c.low_bits.ensures ∙ stands-all c.loop-i.invariant c.loop-i-test.false
 
 pub low_eights_spec : {M : Type 1} → statement M
 low_eights_spec =

@@ -7,8 +7,8 @@ use Rattle.crc.proofs.low_joined.Tie as tie
 
 returns : tie.Need-returns
 returns c =
-    eight_bits _ c.before.before.before.before.before.before.before.before.args.i
-    (λ k. omega (arith, c.shared-slice-known8.given k)) (omega arith)
+    eight_bits _ c.args.i
+    (λ k. omega (arith, c.shared_slice_known-8-1.given k)) (omega arith)
 
 pub low_joined_spec : {M : Type 1} → statement M
 low_joined_spec =

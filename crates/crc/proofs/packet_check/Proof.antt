@@ -15,34 +15,34 @@ use Rattle.crc.proofs.Halves.{Halves, halves_more}
 use Rattle.crc.proofs.packet_check.Statement.{statement}
 use Rattle.crc.proofs.packet_check.Tie as tie
 
-abbrev invariant-loop : tie.invariant-loop
+abbrev invariant-loop : tie.invariant-loop-i
 invariant-loop octets table crc₀ i₀ crc i = Halves table octets i crc
 
-abbrev decreases-loop : tie.decreases-loop
+abbrev decreases-loop : tie.decreases-loop-i
 decreases-loop octets table crc₀ i₀ crc i = length octets - i
 
 abbrev Here : Type 0
-Here = tie.After-shared-slice-known invariant-loop decreases-loop
+Here = tie.After-shared_slice_known-1 invariant-loop decreases-loop
 
-loop-holds : tie.Need-loop-init invariant-loop decreases-loop
+loop-holds : tie.Need-loop-i-init invariant-loop decreases-loop
 unfolding right table_word
 loop-holds c = record { words = record { all = refl; words = refl }; passed = record { holds = holds-ones high_first } }
 
-octet : (c : Here) → get_or c.before.before.before.args.octets.now c.before.before.loop.i 0 < 256
-octet c = omega (arith, c.shared-slice-known.given c.before.before.loop.i)
+octet : (c : Here) → get_or c.args.octets.now c.loop-i.i 0 < 256
+octet c = omega (arith, c.shared-slice-known.given c.loop-i.i)
 
 -- the place of each half in the table
-high : tie.Need-array-read-low invariant-loop decreases-loop
-high c = shr_lt 4 12 (xor_lt 16 _ _ c.before.before.loop.invariant.passed.holds.fits (mod-lt _ (lit< tt)))
+high : tie.Need-bounds-table-high invariant-loop decreases-loop
+high c = shr_lt 4 12 (xor_lt 16 _ _ c.loop-i.invariant.passed.holds.fits (mod-lt _ (lit< tt)))
 
-low : tie.Need-array-read-crc invariant-loop decreases-loop
-low c = shr_lt 4 12 (xor_lt 16 _ _ (word_fits c.before.before.loop.invariant.words _ (high c)) (mod-lt _ (lit< tt)))
+low : tie.Need-bounds-table-low invariant-loop decreases-loop
+low c = shr_lt 4 12 (xor_lt 16 _ _ (word_fits c.loop-i.invariant.words _ (high c)) (mod-lt _ (lit< tt)))
 
-loop-again : tie.Need-loop-preserved invariant-loop decreases-loop
-loop-again c = halves_more c.before.before.loop.invariant c.before.loop-test.true (octet c)
+loop-again : tie.Need-loop-i-preserved invariant-loop decreases-loop
+loop-again c = halves_more c.loop-i.invariant c.loop-i-test.true (octet c)
 
 returns : tie.Need-returns invariant-loop decreases-loop
-returns c = sym (xor_zero_r c.before.loop.crc) ∙ passed-all c.before.loop.invariant.passed 0 c.loop-test.false (lit< tt)
+returns c = sym (xor_zero_r c.loop-i.crc) ∙ passed-all c.loop-i.invariant.passed 0 c.loop-i-test.false (lit< tt)
 
 pub packet_check_spec : {M : Type 1} → statement M
 packet_check_spec =

@@ -6,10 +6,10 @@ use borrow.Author.Rules.{rules}
 use Rattle.damage_cases.proofs.change_all.Statement.{statement}
 use Rattle.damage_cases.proofs.change_all.Tie as tie
 
-abbrev invariant-loop : tie.invariant-loop
+abbrev invariant-loop : tie.invariant-loop-at
 invariant-loop octets₀ bits low_first at₀ octets at = length octets ≡ length octets₀
 
-abbrev decreases-loop : tie.decreases-loop
+abbrev decreases-loop : tie.decreases-loop-at
 decreases-loop octets₀ bits low_first at₀ octets at = length bits - at
 
 pub change_all_spec : {M : Type 1} → statement M

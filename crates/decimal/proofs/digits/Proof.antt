@@ -12,13 +12,13 @@ use borrow.Author.Rules.{rules}
 use Rattle.decimal.proofs.digits.Statement.{statement}
 use Rattle.decimal.proofs.digits.Tie as tie
 
-abbrev invariant-loop : tie.invariant-loop
+abbrev invariant-loop : tie.invariant-loop-i
 invariant-loop out₀ at n k i₀ rest₀ out i rest = (i ≤ k) × (length out ≡ length out₀) × Putting (decimal n) out₀ at i rest out
 
-abbrev decreases-loop : tie.decreases-loop
+abbrev decreases-loop : tie.decreases-loop-i
 decreases-loop out₀ at n k i₀ rest₀ out i rest = i
 
-loop-holds : tie.Need-loop-init invariant-loop decreases-loop
+loop-holds : tie.Need-loop-i-init invariant-loop decreases-loop
 loop-holds c =
     let a = c.args in (
       omega arith,
@@ -27,13 +27,13 @@ loop-holds c =
           (ap (λ (k : ℕ). last_digits k a.n) c.requires.0 ∙ decimal-last a.n) (none-put a.k a.n a.out.now a.at),
     )
 
-loop-again : tie.Need-loop-preserved invariant-loop decreases-loop
+loop-again : tie.Need-loop-i-preserved invariant-loop decreases-loop
 loop-again c =
-    let l = c.before.loop in
-    let a = c.before.before.args in
+    let l = c.loop-i in
+    let a = c.args in
     let i : ℕ = l.i - 1 in
     let e : l.i ≡ i + 1 = omega arith in
-    let many = c.before.before.requires.0 in (
+    let many = c.requires.0 in (
       omega arith,
       simp length-set (search rules),
       one-put (decimal a.n) a.out.now a.at i l.rest l.out (omega arith) (omega arith)
@@ -42,8 +42,8 @@ loop-again c =
 
 returns : tie.Need-returns invariant-loop decreases-loop
 returns c =
-    let l = c.before.loop in
-    let a = c.before.before.args in
+    let l = c.loop-i in
+    let a = c.args in
     let e : l.i ≡ 0 = omega arith in
     subst (λ (x : ℕ). l.out ≡ overlay a.out.now (a.at + x) (drop x (decimal a.n))) e l.invariant.2.put ∙ ap
     (λ (x : ℕ). overlay a.out.now x (decimal a.n)) (add-zero a.at)

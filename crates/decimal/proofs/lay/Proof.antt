@@ -13,20 +13,20 @@ use Rattle.decimal.proofs.lay.Tie as tie
 
 returns : tie.Need-returns
 returns c =
-    let d = c.before.before in
-    let p = d.before.before in
-    let a = p.before.before.args in
-    let k = p.places.result in
+    let d = c in
+    let p = d in
+    let a = p.args in
+    let k = p.places-k.result in
     let text = decimal a.n in
-    let many : k ≡ length text = p.places.ensures.0 in
+    let many : k ≡ length text = p.places-k.ensures.0 in
     let fits : a.at + 11 ≤ length a.out.now = search rules in
     record {
       leaves =
           ap (λ (o : List ℕ). set o (a.at + k) a.after) d.digits.ensures
           ∙ ap (λ (m : ℕ). set (overlay a.out.now a.at text) (a.at + m) a.after) many
-          ∙ behind-laid a.out.now a.at text a.after (omega (arith, p.places.ensures.1));
+          ∙ behind-laid a.out.now a.at text a.after (omega (arith, p.places-k.ensures.1));
       behind = simp length-append (omega arith);
-      near = omega (arith, p.places.ensures.1);
+      near = omega (arith, p.places-k.ensures.1);
     }
 
 pub lay_spec : {M : Type 1} → statement M

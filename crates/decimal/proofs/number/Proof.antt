@@ -9,4 +9,4 @@ number_spec =
     tie.close
     (tie.spec
     (λ c. puts_none (search rules)) (λ c. search rules) (λ c. puts_none (search rules)) (λ c κs. search rules) (λ c. search rules)
-    (λ c. puts_laid (search rules) c.before.before.lay.ensures))
+    (λ c. puts_laid (search rules) c.lay.ensures))

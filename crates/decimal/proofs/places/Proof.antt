@@ -5,22 +5,22 @@ use borrow.Author.Rules.{rules}
 use Rattle.decimal.proofs.places.Statement.{statement}
 use Rattle.decimal.proofs.places.Tie as tie
 
-abbrev invariant-loop : tie.invariant-loop
+abbrev invariant-loop : tie.invariant-loop-k
 invariant-loop n k₀ bound₀ k bound = Counting n k bound
 
-abbrev decreases-loop : tie.decreases-loop
+abbrev decreases-loop : tie.decreases-loop-k
 decreases-loop n k₀ bound₀ k bound = 10 - k
 
-returns : tie.Need-returns invariant-loop decreases-loop
+returns : tie.Need-returns-then-n-bound invariant-loop decreases-loop
 returns c =
-    let i = c.before.before.loop.invariant in
-    (how_many i c.if1.true, i.most)
+    let i = c.loop-k.invariant in
+    (how_many i c.if-n-bound.true, i.most)
 
-loop-again : tie.Need-loop-preserved invariant-loop decreases-loop
-loop-again c = one-place-more c.before.loop-test.true c.if1.false c.before.before.loop.invariant
+loop-again : tie.Need-loop-k-preserved invariant-loop decreases-loop
+loop-again c = one-place-more c.loop-k-test.true c.if-n-bound.false c.loop-k.invariant
 
-returns-2 : tie.Need-returns-2 invariant-loop decreases-loop
-returns-2 c = (ten_places c.before.loop.invariant c.loop-test.false (search rules), search rules)
+returns-2 : tie.Need-returns invariant-loop decreases-loop
+returns-2 c = (ten_places c.loop-k.invariant c.loop-k-test.false (search rules), search rules)
 
 pub places_spec : {M : Type 1} → statement M
 places_spec =

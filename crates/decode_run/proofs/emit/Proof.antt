@@ -7,7 +7,7 @@ use Rattle.decode_run.proofs.emit.Tie as tie
 
 returns : tie.Need-returns
 returns c =
-    let p3 = c.before.before.before in
+    let p3 = c in
     let a = p3.args in
     let first : ℕ → List ℕ = λ k. take k a.out.now in
     ap first c.write.ensures ∙ take_own (a.size - 0) a.out.now ∙ ap first (sub-zero a.size)

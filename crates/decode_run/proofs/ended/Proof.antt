@@ -5,30 +5,30 @@ use Rattle.window.specs.declared.Written.{Written}
 use Rattle.decode_run.proofs.ended.Statement.{statement}
 use Rattle.decode_run.proofs.ended.Tie as tie
 
-returns : tie.Need-returns
+returns : tie.Need-returns-then-failed
 returns c =
-    let p2 = c.before.before in
-    let p6 = p2.before.before.before.before in
+    let p2 = c in
+    let p6 = p2 in
     ap (λ (o : Written). take o.size p6.args.out.now) c.none.ensures
-    ∙ picked _ _ _ (sym p2.failed.ensures ∙ c.before.if1.true)
+    ∙ picked _ _ _ (sym p2.failed.ensures ∙ c.if-failed.true)
 
-returns-2 : tie.Need-returns-2
+returns-2 : tie.Need-returns-then-state
 returns-2 c =
-    let p3 = c.before.before.before in
-    let p4 = p3.before in
-    let p5 = p4.before in
-    let p9 = p5.before.before.before.before in
-    ap (λ (o : Written). take o.size p9.args.out.now) c.none2.ensures
-    ∙ passed _ _ _ _ (sym p5.failed.ensures ∙ p4.if1.false) (picked _ _ _ p3.if2.true)
+    let p3 = c in
+    let p4 = p3 in
+    let p5 = p4 in
+    let p9 = p5 in
+    ap (λ (o : Written). take o.size p9.args.out.now) c.none-then-state.ensures
+    ∙ passed _ _ _ _ (sym p5.failed.ensures ∙ p4.if-failed.false) (picked _ _ _ p3.if-state.true)
 
-returns-3 : tie.Need-returns-3
+returns-3 : tie.Need-returns
 returns-3 c =
-    let p5 = c.before.before.before.before.before in
-    let p8 = p5.before.before.before in
-    let p9 = p8.before in
-    let p10 = p9.before in
-    p5.last_line.ensures
-    ∙ passed _ _ _ _ (sym p10.failed.ensures ∙ p9.if1.false) (passed _ _ _ _ p8.if2.false refl)
+    let p5 = c in
+    let p8 = p5 in
+    let p9 = p8 in
+    let p10 = p9 in
+    p5.last_line-last.ensures
+    ∙ passed _ _ _ _ (sym p10.failed.ensures ∙ p9.if-failed.false) (passed _ _ _ _ p8.if-state.false refl)
 
 pub ended_spec : {M : Type 1} → statement M
 ended_spec =

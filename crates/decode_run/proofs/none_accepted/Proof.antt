@@ -5,8 +5,8 @@ use Rattle.decode_run.proofs.none_accepted.Tie as tie
 
 returns : tie.Need-returns
 returns c =
-    let s = c.before.before.before.before.before.args.state.receiver.session in
-    ap (λ (b : Bool). (not b && not s.heard) && not (eqb s.arrival 0)) c.before.before.cut.ensures
+    let s = c.args.state.receiver.session in
+    ap (λ (b : Bool). (not b && not s.heard) && not (eqb s.arrival 0)) c.cut.ensures
 
 pub none_accepted_spec : {M : Type 1} → statement M
 none_accepted_spec = tie.close (tie.spec (λ c κs. search rules) returns)

@@ -6,11 +6,11 @@ use Rattle.decode_run.proofs.run.Tie as tie
 
 returns : tie.Need-returns
 returns c =
-    let p3 = c.before.before.before in
-    let p7 = p3.before.before.before.before in
-    let p8 = p7.before in
-    ran p8.recording.ensures p7.none.ensures
-    p3.turns.ensures (to_z-of_z (search rules) ∙ c.status.ensures)
+    let p3 = c in
+    let p7 = p3 in
+    let p8 = p7 in
+    ran p8.recording-receiver.ensures p7.none-first.ensures
+    p3.turns-stopped.ensures (to_z-of_z (search rules) ∙ c.status.ensures)
 
 pub run_spec : {M : Type 1} → statement M
 run_spec =

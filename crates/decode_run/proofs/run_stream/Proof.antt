@@ -6,18 +6,18 @@ use Rattle.decode_run.proofs.Whole.{ran_behind}
 use Rattle.decode_run.proofs.run_stream.Statement.{statement}
 use Rattle.decode_run.proofs.run_stream.Tie as tie
 
-emit-requires : tie.Need-emit-requires
+emit-requires : tie.Need-emit-first-requires
 emit-requires c κs =
-    let p2 = c.before.before in
-    begins (put_first p2.header-line.ensures (search rules))
+    let p2 = c in
+    begins (put_first p2.header_line-n.ensures (search rules))
 
 returns : tie.Need-returns
 returns c =
-    let p3 = c.before.before.before in
-    let p7 = p3.before.before.before.before in
-    let p10 = p7.before.before.before in
-    ran_behind p10.header-line.ensures (search rules) p7.emit.ensures
-    p3.turns.ensures (to_z-of_z (search rules) ∙ c.status.ensures)
+    let p3 = c in
+    let p7 = p3 in
+    let p10 = p7 in
+    ran_behind p10.header_line-n.ensures (search rules) p7.emit-first.ensures
+    p3.turns-stopped.ensures (to_z-of_z (search rules) ∙ c.status.ensures)
 
 pub run_stream_spec : {M : Type 1} → statement M
 run_stream_spec =

@@ -6,7 +6,7 @@ use Rattle.export_kiss_run.proofs.emit.Tie as tie
 
 returns : tie.Need-returns
 returns c =
-    let p3 = c.before.before.before in
+    let p3 = c in
     c.write.ensures ∙ ap length (whole-hand p3.args.octets.now)
 
 pub emit_spec : {M : Type 1} → statement M

@@ -4,22 +4,22 @@ use Rattle.export_kiss_run.proofs.Handing.{handed, left_out}
 use Rattle.export_kiss_run.proofs.hand_on.Statement.{statement}
 use Rattle.export_kiss_run.proofs.hand_on.Tie as tie
 
-returns : tie.Need-returns
+returns : tie.Need-returns-in-Length
 returns c =
-    let c5 = c.before.before.before.before.before in
-    let s = c5.before.before.before.before.before in
+    let c5 = c in
+    let s = c5 in
     let a = s.args in
     let small : length a.frame.now % 65536 ≡ length a.frame.now = omega (arith, s.requires.short) in
-    handed a.t a.frame.now a.out.now s.requires (ap (λ (k : ℕ). k ∷ []) small) c5.write.ensures c.before.n.given.1
+    handed a.t a.frame.now a.out.now s.requires (ap (λ (k : ℕ). k ∷ []) small) c5.write.ensures c.n-1.given.1
 
-returns-2 : tie.Need-returns-2
+returns-2 : tie.Need-returns-in-Refused
 returns-2 c =
-    let c5 = c.before.before.before.before.before in
-    let s = c5.before.before.before.before.before in
+    let c5 = c in
+    let s = c5 in
     let a = s.args in
     let small : length a.frame.now % 65536 ≡ length a.frame.now = omega (arith, s.requires.short) in
     left_out a.t a.frame.now a.out.now s.requires (ap (λ (k : ℕ). k ∷ []) small) c5.write.ensures
-    c.before.refusal.given.1
+    c.refusal-1.given.1
 
 pub hand_on_spec : {M : Type 1} → statement M
 hand_on_spec =

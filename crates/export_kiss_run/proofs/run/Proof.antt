@@ -5,12 +5,12 @@ use Rattle.export_kiss_run.proofs.run.Tie as tie
 
 returns : tie.Need-returns
 returns c =
-    let p3 = c.before.before.before in
+    let p3 = c in
     record {
       input = _;
       stopped = _;
       input' = _;
-      looped = p3.turns.ensures;
+      looped = p3.turns-stopped.ensures;
       says = to_z-of_z (search rules) ∙ c.status.ensures;
     }
 

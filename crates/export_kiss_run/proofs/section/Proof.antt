@@ -4,52 +4,52 @@ use Rattle.std.proofs.Common.{rules}
 use Rattle.export_kiss_run.proofs.section.Statement.{statement}
 use Rattle.export_kiss_run.proofs.section.Tie as tie
 
-sub-n : tie.Need-overflow-sub-n
+sub-n : tie.Need-overflow_sub-n
 sub-n c =
-    let p5 = c.before.before.before.before.before in
+    let p5 = c in
     let a = p5.args in
-    in_order a.both a.t a.frames a.hand.now c.before.taken2.given.1 p5.requires.sound
+    in_order a.both a.t a.frames a.hand.now c.taken-in-Here-1.given.1 p5.requires.sound
 
-hand-on-requires : tie.Need-hand-on-requires
+hand-on-requires : tie.Need-hand_on-handed-requires
 hand-on-requires c κs =
-    let p3 = c.before.before.before in
-    let p7 = p3.before.before.before.before in
+    let p3 = c in
+    let p7 = p3 in
     let a = p7.args in
     let p = p7.requires in
     record {
-      short = few-octets a.both a.t a.frames a.hand.now p3.taken2.given.1 p.sound c.before.part.ensures;
+      short = few-octets a.both a.t a.frames a.hand.now p3.taken-in-Here-1.given.1 p.sound c.part.ensures;
       room = p.room;
     }
 
-returns : tie.Need-returns
+returns : tie.Need-returns-in-Opened
 returns c =
-    let p5 = c.before.before.before.before.before in
+    let p5 = c in
     let a = p5.args in
     let p = p5.requires in
-    opened a.both a.t a.frames a.hand.now a.out.now c.before.taken.given.1 p.sound p.room
+    opened a.both a.t a.frames a.hand.now a.out.now c.taken-1.given.1 p.sound p.room
 
-returns-2 : tie.Need-returns-2
+returns-2 : tie.Need-returns-in-Here
 returns-2 c =
-    let p4 = c.before.before.before.before in
-    let p6 = p4.before.before in
-    let p8 = p6.before.before in
-    let p12 = p8.before.before.before.before in
+    let p4 = c in
+    let p6 = p4 in
+    let p8 = p6 in
+    let p12 = p8 in
     let a = p12.args in
-    handed-on a.both a.t a.frames a.hand.now p8.taken2.given.1 p12.requires.sound
-    p6.part.ensures p4.hand_on.ensures
-    c.before.wrapping-add-u64.ensures c.first.ensures
+    handed-on a.both a.t a.frames a.hand.now p8.taken-in-Here-1.given.1 p12.requires.sound
+    p6.part.ensures p4.hand_on-handed.ensures
+    c.wrapping_add_u64.ensures c.first.ensures
 
-returns-3 : tie.Need-returns-3
+returns-3 : tie.Need-returns-in-Bad
 returns-3 c =
-    let p3 = c.before.before.before in
+    let p3 = c in
     let a = p3.args in
-    nothing-more a.both a.t a.frames a.hand.now a.out.now a.taken c.match.keys3
+    nothing-more a.both a.t a.frames a.hand.now a.out.now a.taken c.in-Bad.keys3
 
-returns-4 : tie.Need-returns-4
+returns-4 : tie.Need-returns-in-Nothing
 returns-4 c =
-    let p3 = c.before.before.before in
+    let p3 = c in
     let a = p3.args in
-    nothing_yet a.both a.t a.frames a.hand.now a.out.now a.taken c.match.keys4
+    nothing_yet a.both a.t a.frames a.hand.now a.out.now a.taken c.in-Nothing.keys4
 
 pub section_spec : {M : Type 1} → statement M
 section_spec =

@@ -11,26 +11,26 @@ use Rattle.faults.proofs.cause.Tie as tie
 at-reader : {a b : Reader} (w : List ℕ) {x : Why} → x ≡ why_at b w → a ≡ b → x ≡ why_at a w
 at-reader w e same = e ∙ sym (ap (λ (a : Reader). why_at a w) same)
 
-returns : tie.Need-returns
+returns : tie.Need-returns-then-n-ne0
 returns c =
-    let k = c.before.before.before in
-    let w = k.before.before.before.args.rest.now in
-    at-reader w (c.frame.ensures ∙ frames-cut w _ c.before.if1.true) k.reader.given.1
+    let k = c in
+    let w = k.args.rest.now in
+    at-reader w (c.frame.ensures ∙ frames-cut w _ c.if-n-ne0.true) k.reader-1.given.1
 
-returns-2 : tie.Need-returns-2
+returns-2 : tie.Need-returns-then-rest-eq0
 returns-2 c =
-    let k = c.before.before.before in
-    let w = k.before.before.before.args.rest.now in
-    at-reader w (frames-end w _ c.before.if1.false c.if2.true) k.reader.given.1
+    let k = c in
+    let w = k.args.rest.now in
+    at-reader w (frames-end w _ c.if-n-ne0.false c.if-rest-eq0.true) k.reader-1.given.1
 
-returns-3 : tie.Need-returns-3
-returns-3 c = at-reader c.before.before.before.before.args.rest.now c.settings.ensures c.before.enum_told.given.1
+returns-3 : tie.Need-returns-in-Settings
+returns-3 c = at-reader c.args.rest.now c.settings.ensures c.enum_told-1.given.1
 
-returns-5 : tie.Need-returns-5
+returns-5 : tie.Need-returns-else-rest-eq0
 returns-5 c =
-    let k = c.before.before.before in
-    let w = k.before.before.before.args.rest.now in
-    at-reader w (frames-behind w _ c.before.if1.false c.if2.false) k.reader.given.1
+    let k = c in
+    let w = k.args.rest.now in
+    at-reader w (frames-behind w _ c.if-n-ne0.false c.if-rest-eq0.false) k.reader-1.given.1
 
 pub cause_spec : {M : Type 1} → statement M
 cause_spec =

@@ -4,21 +4,21 @@ use Rattle.faults.proofs.Whys.{settings-short, settings-other, settings-cut, set
 use Rattle.faults.proofs.settings.Statement.{statement}
 use Rattle.faults.proofs.settings.Tie as tie
 
-returns : tie.Need-returns
-returns c = settings-short _ c.if1.true
+returns : tie.Need-returns-then-rest-lt4
+returns c = settings-short _ c.if-rest-lt4.true
 
-returns-2 : tie.Need-returns-2
-returns-2 c = settings-other _ c.before.four.ensures c.before.before.before.before.before.before.if1.false c.if2.true
+returns-2 : tie.Need-returns-then-four-ne1
+returns-2 c = settings-other _ c.four.ensures c.if-rest-lt4.false c.if-four-ne1.true
 
-returns-3 : tie.Need-returns-3
+returns-3 : tie.Need-returns-then-rest-lt5
 returns-3 c =
-    let c7 = c.before.before.before.before.before.before.before in
-    settings-cut _ c.before.before.four.ensures c7.if1.false c.before.if2.false c.if3.true
+    let c7 = c in
+    settings-cut _ c.four.ensures c7.if-rest-lt4.false c.if-four-ne1.false c.if-rest-lt5.true
 
-returns-4 : tie.Need-returns-4
+returns-4 : tie.Need-returns
 returns-4 c =
-    let c7 = c.before.before.before.before.before.before.before in
-    settings-long _ c.before.before.four.ensures c7.if1.false c.before.if2.false c.if3.false
+    let c7 = c in
+    settings-long _ c.four.ensures c7.if-rest-lt4.false c.if-four-ne1.false c.if-rest-lt5.false
 
 pub settings_spec : {M : Type 1} → statement M
 settings_spec =

@@ -6,13 +6,13 @@ use borrow.Author.Rules.{rules}
 use Rattle.greymap.proofs.draw_line.Statement.{statement}
 use Rattle.greymap.proofs.draw_line.Tie as tie
 
-returns : tie.Need-returns
+returns : tie.Need-returns-then-number-eq0
 unfolding line_shown blank pick
-returns c = simp (eq-eqb _ _ c.before.before.before.before.before.if1.true) c.before.before.put.ensures
+returns c = simp (eq-eqb _ _ c.if-number-eq0.true) c.put.ensures
 
-returns-2 : tie.Need-returns-2
+returns-2 : tie.Need-returns
 unfolding line_shown pick
-returns-2 c = simp (ne_eqb _ _ c.before.before.before.before.if1.false) c.before.before.put2.ensures
+returns-2 c = simp (ne_eqb _ _ c.if-number-eq0.false) c.put-2.ensures
 
 pub draw_line_spec : {M : Type 1} → statement M
 draw_line_spec =

@@ -10,53 +10,53 @@ use borrow.Author.Rules.{rules}
 use Rattle.greymap.proofs.read.Statement.{statement}
 use Rattle.greymap.proofs.read.Tie as tie
 
-returns : tie.Need-returns
+returns : tie.Need-returns-then-short
 unfolding reading
 returns c = search answers
 
-returns-2 : tie.Need-returns-2
+returns-2 : tie.Need-returns-then-greymap_wrong
 unfolding reading
 returns-2 c = search answers
 
-returns-3 : tie.Need-returns-3
+returns-3 : tie.Need-returns-then-text_wrong
 unfolding reading
 returns-3 c = search answers
 
-unnumbered-wrong-requires : tie.Need-unnumbered-wrong-requires
+unnumbered-wrong-requires : tie.Need-unnumbered_wrong-requires
 unnumbered-wrong-requires c κs =
-    let t = c.before.before.before in
-    let a = t.before.before.before.before.before.before.before.before.before.before.before.before.args in
+    let t = c in
+    let a = t.args in
     record {
-      lines = t.text-wrong.auto.1.0;
-      octets = right-length a.grey.now t.before.before.before.greymap-wrong.ensures
-          t.before.before.if2.false;
+      lines = t.text_wrong.auto.1.0;
+      octets = right-length a.grey.now t.greymap_wrong.ensures
+          t.if-greymap_wrong.false;
     }
 
-returns-4 : tie.Need-returns-4
+returns-4 : tie.Need-returns-then-unnumbered_wrong
 returns-4 c =
-    let u = c.before in
-    let t = u.before.before.before.before in
-    unnumbered _ _ _ t.before.before.before.before.before.short.ensures t.before.before.before.before.if1.false
-    t.before.before.before.greymap-wrong.ensures t.before.before.if2.false t.text-wrong.ensures
-    u.before.before.if3.false u.unnumbered-wrong.ensures c.if4.true
+    let u = c in
+    let t = u in
+    unnumbered _ _ _ t.short.ensures t.if-short.false
+    t.greymap_wrong.ensures t.if-greymap_wrong.false t.text_wrong.ensures
+    u.if-text_wrong.false u.unnumbered_wrong.ensures c.if-unnumbered_wrong.true
 
-put-numbers-requires : tie.Need-put-numbers-requires
+put-numbers-requires : tie.Need-put_numbers-requires
 put-numbers-requires c κs =
-    let t = c.before.before.before.before.before.before.before.before.before.before.before.before in
-    let a = t.before.before.before.before.before.before.before.before.before.before.before.before.args in
+    let t = c in
+    let a = t.args in
     let room = room_of (image_of a.image.now a.lines.now)
-    (sym t.before.before.before.before.before.short.ensures ∙ t.before.before.before.before.if1.false) in
-    omega (arith, t.text-wrong.auto.1.0, room.lines)
+    (sym t.short.ensures ∙ t.if-short.false) in
+    omega (arith, t.text_wrong.auto.1.0, room.lines)
 
-returns-5 : tie.Need-returns-5
+returns-5 : tie.Need-returns
 returns-5 c =
-    let p = c.before.before.before.before.before.before.before in
-    let u = p.before.before.before.before in
-    let t = u.before.before.before.before in
-    all_read _ _ _ t.before.before.before.before.before.short.ensures t.before.before.before.before.if1.false
-    t.before.before.before.greymap-wrong.ensures t.before.before.if2.false t.text-wrong.ensures
-    u.before.before.if3.false u.unnumbered-wrong.ensures p.before.before.before.if4.false
-    p.before.part.ensures p.put.ensures c.before.before.put-numbers.ensures
+    let p = c in
+    let u = p in
+    let t = u in
+    all_read _ _ _ t.short.ensures t.if-short.false
+    t.greymap_wrong.ensures t.if-greymap_wrong.false t.text_wrong.ensures
+    u.if-text_wrong.false u.unnumbered_wrong.ensures p.if-unnumbered_wrong.false
+    p.part.ensures p.put.ensures c.put_numbers.ensures
 
 pub read_spec : {M : Type 1} → statement M
 read_spec =

@@ -6,27 +6,27 @@ use borrow.Author.Rules.{rules}
 use Rattle.greymap.proofs.text_wrong.Statement.{statement}
 use Rattle.greymap.proofs.text_wrong.Tie as tie
 
-abbrev invariant-loop : tie.invariant-loop
+abbrev invariant-loop : tie.invariant-loop-i
 invariant-loop text list₀ from₀ i₀ list from i = Listing text from i list
 
-abbrev decreases-loop : tie.decreases-loop
+abbrev decreases-loop : tie.decreases-loop-i
 decreases-loop text list₀ from₀ i₀ list from i = image_lines - i
 
-loop-holds : tie.Need-loop-init invariant-loop decreases-loop
+loop-holds : tie.Need-loop-i-init invariant-loop decreases-loop
 loop-holds c = none-listed _ _ (search rules)
 
-returns : tie.Need-returns invariant-loop decreases-loop
+returns : tie.Need-returns-in_default invariant-loop decreases-loop
 returns c =
-    let l = c.before.before.before.before.loop in
-    wrong-listed _ l.list l.at l.i l.invariant (search rules) c.before.before.read.ensures c.enum_told.given.1
+    let l = c.loop-i in
+    wrong-listed _ l.list l.at l.i l.invariant (search rules) c.read.ensures c.enum_told-1.given.1
 
-loop-again : tie.Need-loop-preserved invariant-loop decreases-loop
+loop-again : tie.Need-loop-i-preserved invariant-loop decreases-loop
 loop-again c =
-    let l = c.before.before.before.before.before.loop in
-    one-listed _ l.list l.at l.i l.invariant (search rules) c.before.before.before.read.ensures c.before.n.given.1
+    let l = c.loop-i in
+    one-listed _ l.list l.at l.i l.invariant (search rules) c.read.ensures c.n-1.given.1
 
-returns-2 : tie.Need-returns-2 invariant-loop decreases-loop
-returns-2 c = all_listed _ c.before.loop.list c.before.loop.at c.before.loop.i c.before.loop.invariant c.loop-test.false
+returns-2 : tie.Need-returns invariant-loop decreases-loop
+returns-2 c = all_listed _ c.loop-i.list c.loop-i.at c.loop-i.i c.loop-i.invariant c.loop-i-test.false
 
 pub text_wrong_spec : {M : Type 1} → statement M
 text_wrong_spec =

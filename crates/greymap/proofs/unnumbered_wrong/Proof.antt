@@ -7,34 +7,34 @@ use borrow.Author.Rules.{rules}
 use Rattle.greymap.proofs.unnumbered_wrong.Statement.{statement}
 use Rattle.greymap.proofs.unnumbered_wrong.Tie as tie
 
-abbrev invariant-loop : tie.invariant-loop
+abbrev invariant-loop : tie.invariant-loop-n
 invariant-loop list grey blank' n₀ n = Looking list grey n
 
-abbrev decreases-loop : tie.decreases-loop
+abbrev decreases-loop : tie.decreases-loop-n
 decreases-loop list grey blank' n₀ n = image_lines - n
 
-returns : tie.Need-returns invariant-loop decreases-loop
+returns : tie.Need-returns-then-list-n invariant-loop decreases-loop
 unfolding blank
 returns c =
-    let c4 = c.before.before.before.before in
-    let c6 = c4.before.before in
-    let s = c6.before.before.before in
-    let l = c6.loop in
-    wrong-line s.args.list.now s.args.grey.now l.n s.requires l.invariant (search rules) c4.part.ensures
-    c.before.same.ensures c.if1.true
+    let c4 = c in
+    let c6 = c4 in
+    let s = c6 in
+    let l = c6.loop-n in
+    wrong-line s.args.list.now s.args.grey.now l.n s.requires l.invariant (search rules) c4.part-pixels.ensures
+    c.same.ensures c.if-list-n.true
 
-loop-again : tie.Need-loop-preserved invariant-loop decreases-loop
+loop-again : tie.Need-loop-n-preserved invariant-loop decreases-loop
 unfolding blank
 loop-again c =
-    let c4 = c.before.before.before.before in
-    let c6 = c4.before.before in
-    let s = c6.before.before.before in
-    let l = c6.loop in
-    right-line s.args.list.now s.args.grey.now l.n s.requires l.invariant (search rules) c4.part.ensures
-    c.before.same.ensures c.if1.false
+    let c4 = c in
+    let c6 = c4 in
+    let s = c6 in
+    let l = c6.loop-n in
+    right-line s.args.list.now s.args.grey.now l.n s.requires l.invariant (search rules) c4.part-pixels.ensures
+    c.same.ensures c.if-list-n.false
 
-returns-2 : tie.Need-returns-2 invariant-loop decreases-loop
-returns-2 c = all-looked _ _ c.before.loop.n c.before.before.before.before.requires c.before.loop.invariant c.loop-test.false
+returns-2 : tie.Need-returns invariant-loop decreases-loop
+returns-2 c = all-looked _ _ c.loop-n.n c.requires c.loop-n.invariant c.loop-n-test.false
 
 pub unnumbered_wrong_spec : {M : Type 1} → statement M
 unnumbered_wrong_spec =

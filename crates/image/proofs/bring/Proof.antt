@@ -4,22 +4,22 @@ use borrow.Author.Rules.{rules}
 use Rattle.image.proofs.bring.Statement.{statement}
 use Rattle.image.proofs.bring.Tie as tie
 
-returns : tie.Need-returns
-returns c = not_line_lem _ _ _ _ _ c.match.keys2
+returns : tie.Need-returns-in_default
+returns c = not_line_lem _ _ _ _ _ c.in_default.keys2
 
-returns-2 : tie.Need-returns-2
-returns-2 c = other-image _ _ _ _ c.before.before.before.content.given.1 c.if1.true
+returns-2 : tie.Need-returns-then-l-wanted
+returns-2 c = other-image _ _ _ _ c.content-1.given.1 c.if-l-wanted.true
 
-place-line-requires : tie.Need-place-line-requires
+place-line-requires : tie.Need-place_line-requires
 place-line-requires c κs =
-    let m = c.before.before.before.before.before.before in
-    line-fits _ _ 0 _ m.content.given.1 c.before.before.pixels.ensures m.before.before.before.before.before.requires
+    let m = c in
+    line-fits _ _ 0 _ m.content-1.given.1 c.pixels.ensures m.requires
 
-returns-3 : tie.Need-returns-3
+returns-3 : tie.Need-returns
 returns-3 c =
-    let m = c.before.before.before.before.before.before.before in
-    this_image _ _ _ _ m.before.before.before.before.content.given.1 m.before.if1.false m.pixels.ensures
-    c.before.before.before.before.place-line.ensures
+    let m = c in
+    this_image _ _ _ _ m.content-1.given.1 m.if-l-wanted.false m.pixels.ensures
+    c.place_line.ensures
 
 pub bring_spec : {M : Type 1} → statement M
 bring_spec =

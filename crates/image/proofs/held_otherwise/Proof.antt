@@ -5,13 +5,13 @@ use borrow.Author.Rules.{rules}
 use Rattle.image.proofs.held_otherwise.Statement.{statement}
 use Rattle.image.proofs.held_otherwise.Tie as tie
 
-returns : tie.Need-returns
+returns : tie.Need-returns-then-lines-n-eq0
 unfolding held_otherwise
-returns c = simp (eq-eqb _ _ c.if1.true)
+returns c = simp (eq-eqb _ _ c.if-lines-n-eq0.true)
 
-returns-2 : tie.Need-returns-2
+returns-2 : tie.Need-returns
 unfolding held_otherwise
-returns-2 c = simp (ne_eqb _ _ c.before.before.if1.false, c.same.ensures, c.before.part.ensures)
+returns-2 c = simp (ne_eqb _ _ c.if-lines-n-eq0.false, c.same.ensures, c.part.ensures)
 
 pub held_otherwise_spec : {M : Type 1} → statement M
 held_otherwise_spec =

@@ -9,8 +9,8 @@ use Rattle.image.proofs.lay.Tie as tie
 
 returns : tie.Need-returns
 returns c =
-    let a = c.before.before.before.before.before.before.before.before.before.args in
-    let put = c.before.before.before.before.put.ensures in
+    let a = c.args in
+    let put = c.put.ensures in
     let e = put ∙ sym (put-fits a.image.now (start a.n) a.pixels.now (omega arith)) in
     rw (e, c.number.ensures) refl
 

@@ -4,13 +4,13 @@ use Rattle.image.proofs.Brought.{line-held, line-placed}
 use Rattle.image.proofs.place_line.Statement.{statement}
 use Rattle.image.proofs.place_line.Tie as tie
 
-returns : tie.Need-returns
+returns : tie.Need-returns-then-held_otherwise
 returns c = search (line-held, rules)
 
-returns-2 : tie.Need-returns-2
+returns-2 : tie.Need-returns
 returns-2 c =
-    let m = c.before.before.before.before.before.before.before in
-    line-placed _ _ m.before.held-otherwise.ensures m.if1.false c.before.before.before.before.lay.ensures
+    let m = c in
+    line-placed _ _ m.held_otherwise.ensures m.if-held_otherwise.false c.lay.ensures
 
 pub place_line_spec : {M : Type 1} → statement M
 place_line_spec =

@@ -6,10 +6,10 @@ use borrow.Author.Rules.{rules}
 use Rattle.image_cases.proofs.hold_all.Statement.{statement}
 use Rattle.image_cases.proofs.hold_all.Tie as tie
 
-abbrev invariant-loop : tie.invariant-loop
+abbrev invariant-loop : tie.invariant-loop-at
 invariant-loop c image₀ lines₀ held at₀ image lines at = (length image ≡ length image₀) × (length lines ≡ length lines₀)
 
-abbrev decreases-loop : tie.decreases-loop
+abbrev decreases-loop : tie.decreases-loop-at
 decreases-loop c image₀ lines₀ held at₀ image lines at = length held - at
 
 pub hold_all_spec : {M : Type 1} → statement M

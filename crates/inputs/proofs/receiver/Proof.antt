@@ -4,21 +4,21 @@ use Rattle.inputs.proofs.Words.{kiss_named, bits-named, none_named_lem}
 use Rattle.inputs.proofs.receiver.Statement.{statement}
 use Rattle.inputs.proofs.receiver.Tie as tie
 
-returns : tie.Need-returns
+returns : tie.Need-returns-then-same
 returns c =
-    let test = c.before.before.before in
-    kiss_named _ _ test.before.same.ensures test.if1.true c.before.before.time.ensures c.before.kiss.ensures.receiver
+    let test = c in
+    kiss_named _ _ test.same.ensures test.if-same.true c.time.ensures c.kiss-begun.ensures.receiver
 
-returns-2 : tie.Need-returns-2
+returns-2 : tie.Need-returns-then-same-2
 returns-2 c =
-    let test = c.before.before.before in
-    bits-named _ _ test.before.before.before.before.same.ensures test.before.same2.ensures
-    test.before.before.before.if1.false test.if2.true c.before.before.time2.ensures c.before.bits.ensures.receiver
+    let test = c in
+    bits-named _ _ test.same.ensures test.same-2.ensures
+    test.if-same.false test.if-same-2.true c.time-then-same-2.ensures c.bits-begun.ensures.receiver
 
-returns-3 : tie.Need-returns-3
+returns-3 : tie.Need-returns
 returns-3 c =
-    none_named_lem _ _ c.before.before.before.before.before.same.ensures c.before.before.same2.ensures
-    c.before.before.before.before.if1.false c.before.if2.false c.recording.ensures
+    none_named_lem _ _ c.same.ensures c.same-2.ensures
+    c.if-same.false c.if-same-2.false c.recording.ensures
 
 pub receiver_spec : {M : Type 1} → statement M
 receiver_spec =

@@ -6,19 +6,19 @@ use Rattle.inputs.specs.Words.{time_of}
 use Rattle.inputs.proofs.time.Statement.{statement}
 use Rattle.inputs.proofs.time.Tie as tie
 
-returns : tie.Need-returns
+returns : tie.Need-returns-then-word-ne1
 unfolding time_of
 returns c = search (answers, tests)
 
-returns-2 : tie.Need-returns-2
+returns-2 : tie.Need-returns-then-word-lt48
 unfolding time_of
 returns-2 c = search (answers, tests)
 
-returns-3 : tie.Need-returns-3
+returns-3 : tie.Need-returns-then-word-gt56
 unfolding time_of
 returns-3 c = search (answers, tests)
 
-returns-4 : tie.Need-returns-4
+returns-4 : tie.Need-returns
 unfolding time_of
 returns-4 c = search (answers, tests)
 

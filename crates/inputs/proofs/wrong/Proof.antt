@@ -5,7 +5,7 @@ use Rattle.inputs.proofs.wrong.Statement.{statement}
 use Rattle.inputs.proofs.wrong.Tie as tie
 
 returns : tie.Need-returns
-returns c = wrong-told _ _ c.before.before.before.same.ensures c.before.same2.ensures c.time.ensures
+returns c = wrong-told _ _ c.same-kiss.ensures c.same-bits.ensures c.time-t.ensures
 
 pub wrong_spec : {M : Type 1} → statement M
 wrong_spec =

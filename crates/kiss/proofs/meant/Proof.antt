@@ -5,15 +5,15 @@ use Rattle.kiss.specs.Reader.{meant}
 use Rattle.kiss.proofs.meant.Statement.{statement}
 use Rattle.kiss.proofs.meant.Tie as tie
 
-returns : tie.Need-returns
+returns : tie.Need-returns-then-x-eq-FOR_MARK
 unfolding meant
 returns c = search (answers, tests)
 
-returns-2 : tie.Need-returns-2
+returns-2 : tie.Need-returns-then-x-eq-FOR_ESCAPE
 unfolding meant
 returns-2 c = search (answers, tests)
 
-returns-3 : tie.Need-returns-3
+returns-3 : tie.Need-returns
 unfolding meant
 returns-3 c = search (answers, tests)
 

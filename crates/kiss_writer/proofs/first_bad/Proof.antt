@@ -7,36 +7,36 @@ use Rattle.kiss_writer.proofs.Refusing.{Good, good-first, good-fits, good-next, 
 use Rattle.kiss_writer.proofs.first_bad.Statement.{statement}
 use Rattle.kiss_writer.proofs.first_bad.Tie as tie
 
-abbrev invariant-loop : tie.invariant-loop
+abbrev invariant-loop : tie.invariant-loop-i
 invariant-loop t octets lengths at₀ i₀ at i = Good t octets lengths at i
 
-abbrev decreases-loop : tie.decreases-loop
+abbrev decreases-loop : tie.decreases-loop-i
 decreases-loop t octets lengths at₀ i₀ at i = length lengths - i
 
-loop-holds : tie.Need-loop-init invariant-loop decreases-loop
+loop-holds : tie.Need-loop-i-init invariant-loop decreases-loop
 loop-holds c = good-first _ _ _
 
-cast-end : tie.Need-overflow-cast-end invariant-loop decreases-loop
-cast-end c = omega (arith, c.shared-slice-known3.given c.before.before.loop.i)
+cast-end : tie.Need-overflow_cast-end invariant-loop decreases-loop
+cast-end c = omega (arith, c.shared_slice_known-in-loop-i-1.given c.loop-i.i)
 
-add-end : tie.Need-overflow-add-end invariant-loop decreases-loop
-add-end c = record { fits = omega (arith, good-fits c.before.before.loop.invariant (search rules) (search rules)) }
+add-end : tie.Need-overflow_add-end invariant-loop decreases-loop
+add-end c = record { fits = omega (arith, good-fits c.loop-i.invariant (search rules) (search rules)) }
 
-part-read-end : tie.Need-slice-bounds-read-end invariant-loop decreases-loop
-part-read-end c = omega (arith, good-fits c.before.before.loop.invariant (search rules) (search rules))
+part-read-end : tie.Need-slice_bounds-read-end invariant-loop decreases-loop
+part-read-end c = omega (arith, good-fits c.loop-i.invariant (search rules) (search rules))
 
-returns : tie.Need-returns invariant-loop decreases-loop
+returns : tie.Need-returns-in-Refused invariant-loop decreases-loop
 returns c =
-    let l = c.before.before.before.before.before.before in
-    good-bad l.before.loop.invariant l.loop-test.true _ _ c.before.before.before.read.ensures c.before.refusal.given.1
+    let l = c in
+    good-bad l.loop-i.invariant l.loop-i-test.true _ _ c.read.ensures c.refusal-1.given.1
 
-loop-again : tie.Need-loop-preserved invariant-loop decreases-loop
+loop-again : tie.Need-loop-i-preserved invariant-loop decreases-loop
 loop-again c =
-    let l = c.before.before.before.before.before in
-    good-next l.before.loop.invariant l.loop-test.true _ _ c.before.before.read.ensures c.enum_told.given.1
+    let l = c in
+    good-next l.loop-i.invariant l.loop-i-test.true _ _ c.read.ensures c.enum_told-1.given.1
 
-returns-2 : tie.Need-returns-2 invariant-loop decreases-loop
-returns-2 c = good-end c.before.loop.invariant c.loop-test.false
+returns-2 : tie.Need-returns invariant-loop decreases-loop
+returns-2 c = good-end c.loop-i.invariant c.loop-i-test.false
 
 pub first_bad_spec : {M : Type 1} → statement M
 first_bad_spec =

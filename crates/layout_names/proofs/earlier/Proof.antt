@@ -7,31 +7,31 @@ use borrow.Author.Rules.{rules}
 use Rattle.layout_names.proofs.earlier.Statement.{statement}
 use Rattle.layout_names.proofs.earlier.Tie as tie
 
-abbrev invariant-loop : tie.invariant-loop
+abbrev invariant-loop : tie.invariant-loop-j
 invariant-loop text froms tos from k j₀ j =
     earlier (names_of text froms tos) from k ≡ any_of (λ i. same_name (names_of text froms tos) i k) (k - j) j
 
-abbrev decreases-loop : tie.decreases-loop
+abbrev decreases-loop : tie.decreases-loop-j
 decreases-loop text froms tos from k j₀ j = k - j
 
-loop-holds : tie.Need-loop-init invariant-loop decreases-loop
+loop-holds : tie.Need-loop-j-init invariant-loop decreases-loop
 unfolding earlier
 loop-holds c = refl
 
-returns : tie.Need-returns invariant-loop decreases-loop
+returns : tie.Need-returns-then-same_name invariant-loop decreases-loop
 returns c =
-    let l = c.before.before.before.loop in
-    sym (l.invariant ∙ any_here _ l.j _ c.before.before.loop-test.true (sym c.before.same_name.ensures ∙ c.if1.true))
+    let l = c.loop-j in
+    sym (l.invariant ∙ any_here _ l.j _ c.loop-j-test.true (sym c.same_name.ensures ∙ c.if-same_name.true))
 
-loop-again : tie.Need-loop-preserved invariant-loop decreases-loop
+loop-again : tie.Need-loop-j-preserved invariant-loop decreases-loop
 loop-again c =
-    let l = c.before.before.before.loop in
-    l.invariant ∙ any_later _ l.j _ c.before.before.loop-test.true (sym c.before.same_name.ensures ∙ c.if1.false)
+    let l = c.loop-j in
+    l.invariant ∙ any_later _ l.j _ c.loop-j-test.true (sym c.same_name.ensures ∙ c.if-same_name.false)
 
-returns-2 : tie.Need-returns-2 invariant-loop decreases-loop
+returns-2 : tie.Need-returns invariant-loop decreases-loop
 returns-2 c =
-    let l = c.before.loop in
-    sym (l.invariant ∙ any_none _ l.j _ c.loop-test.false)
+    let l = c.loop-j in
+    sym (l.invariant ∙ any_none _ l.j _ c.loop-j-test.false)
 
 pub earlier_spec : {M : Type 1} → statement M
 earlier_spec =

@@ -5,11 +5,11 @@ use Rattle.octets.proofs.Choices.{picked, passed}
 use Rattle.layout_names.proofs.line_end.Statement.{statement}
 use Rattle.layout_names.proofs.line_end.Tie as tie
 
-returns : tie.Need-returns
-returns c = picked _ _ _ (eq-eqb _ _ c.if1.true)
+returns : tie.Need-returns-then-octet-eq10
+returns c = picked _ _ _ (eq-eqb _ _ c.if-octet-eq10.true)
 
-returns-2 : tie.Need-returns-2
-returns-2 c = passed _ _ _ _ (ne_eqb _ _ c.if1.false) refl
+returns-2 : tie.Need-returns
+returns-2 c = passed _ _ _ _ (ne_eqb _ _ c.if-octet-eq10.false) refl
 
 pub line_end_spec : {M : Type 1} → statement M
 line_end_spec = tie.close (tie.spec returns returns-2)

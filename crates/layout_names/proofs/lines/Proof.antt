@@ -10,33 +10,33 @@ use borrow.Author.Rules.{rules}
 use Rattle.layout_names.proofs.lines.Statement.{statement}
 use Rattle.layout_names.proofs.lines.Tie as tie
 
-abbrev invariant-loop : tie.invariant-loop
+abbrev invariant-loop : tie.invariant-loop-i
 invariant-loop octets n₀ i₀ n i = (n ≤ i) × (n + newlines (drop i octets) ≡ newlines octets)
 
-abbrev decreases-loop : tie.decreases-loop
+abbrev decreases-loop : tie.decreases-loop-i
 decreases-loop octets n₀ i₀ n i = length octets - i
 
-loop-holds : tie.Need-loop-init invariant-loop decreases-loop
+loop-holds : tie.Need-loop-i-init invariant-loop decreases-loop
 loop-holds c = (search rules, omega arith)
 
-add-n : tie.Need-overflow-add-n invariant-loop decreases-loop
+add-n : tie.Need-overflow_add-n invariant-loop decreases-loop
 add-n c =
-    let p = c.before.before.before in
-    let s = p.before.before.args.octets.now in
-    omega (arith, p.loop.invariant.0, c.line-end.ensures, at_most_one (at s p.loop.i))
+    let p = c in
+    let s = p.args.octets.now in
+    omega (arith, p.loop-i.invariant.0, c.line_end-n.ensures, at_most_one (at s p.loop-i.i))
 
-loop-again : tie.Need-loop-preserved invariant-loop decreases-loop
+loop-again : tie.Need-loop-i-preserved invariant-loop decreases-loop
 loop-again c =
-    let p = c.before.before.before in
-    let s = p.before.before.args.octets.now in (
-      omega (arith, p.loop.invariant.0, c.line-end.ensures, at_most_one (at s p.loop.i)),
-      omega (arith, p.loop.invariant.1, c.line-end.ensures, one_more s p.loop.i c.before.before.loop-test.true),
+    let p = c in
+    let s = p.args.octets.now in (
+      omega (arith, p.loop-i.invariant.0, c.line_end-n.ensures, at_most_one (at s p.loop-i.i)),
+      omega (arith, p.loop-i.invariant.1, c.line_end-n.ensures, one_more s p.loop-i.i c.loop-i-test.true),
     )
 
 returns : tie.Need-returns invariant-loop decreases-loop
 returns c =
-    let l = c.before.loop in
-    omega (arith, l.invariant.1, no_more c.before.before.before.args.octets.now l.i c.loop-test.false)
+    let l = c.loop-i in
+    omega (arith, l.invariant.1, no_more c.args.octets.now l.i c.loop-i-test.false)
 
 pub lines_spec : {M : Type 1} → statement M
 lines_spec =

@@ -7,9 +7,9 @@ use borrow.Author.Rules.{rules}
 use Rattle.layout_names.proofs.name.Statement.{statement}
 use Rattle.layout_names.proofs.name.Tie as tie
 
-returns : tie.Need-returns
+returns : tie.Need-returns-then-to-from
 returns c =
-    let a = c.before.before.before.args in
+    let a = c.args in
     let e : 0 ≡ a.to - a.from = omega arith in
     c.part.ensures ∙ ap (λ (n : ℕ). part a.text.now a.from n) e
 

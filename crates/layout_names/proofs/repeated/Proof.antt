@@ -14,49 +14,49 @@ use Rattle.layout_names.proofs.repeated.Tie as tie
 abbrev layout : (ℕ → List ℕ) → List ℕ → ℕ → Repeat
 layout names starts i = first_within names (at starts i) (at starts (suc i))
 
-abbrev invariant-loop : tie.invariant-loop
+abbrev invariant-loop : tie.invariant-loop-i
 invariant-loop text starts n froms tos i₀ i =
     first_repeated (names_of text froms tos) starts n ≡ in_layouts (layout (names_of text froms tos) starts) (n - i) i
 
-abbrev decreases-loop : tie.decreases-loop
+abbrev decreases-loop : tie.decreases-loop-i
 decreases-loop text starts n froms tos i₀ i = n - i
 
-loop-holds : tie.Need-loop-init invariant-loop decreases-loop
+loop-holds : tie.Need-loop-i-init invariant-loop decreases-loop
 unfolding first_repeated
 loop-holds c =
-    let a = c.before.before.before.before.args in
+    let a = c.args in
     let names = names_of a.text.now a.froms.now a.tos.now in
     let e : a.n ≡ a.n - 0 = omega arith in
     ap (λ (m : ℕ). in_layouts (layout names a.starts.now) m 0) e
 
-returns : tie.Need-returns invariant-loop decreases-loop
+returns : tie.Need-returns-in-Entry invariant-loop decreases-loop
 returns c =
-    let p3 = c.before.before.before in
-    let p6 = p3.before.before.before in
-    let l = p6.before.loop in
-    let a = p6.before.before.before.before.before.before.args in
+    let p3 = c in
+    let p6 = p3 in
+    let l = p6.loop-i in
+    let a = p6.args in
     let names = names_of a.text.now a.froms.now a.tos.now in
-    sym (l.invariant ∙ in_here (layout names a.starts.now) l.i a.n p6.loop-test.true
-    (found_as names a.starts.now l.i p3.before.before.element.ensures p3.before.element2.ensures p3.within.ensures
-    c.before.k.given.1))
+    sym (l.invariant ∙ in_here (layout names a.starts.now) l.i a.n p6.loop-i-test.true
+    (found_as names a.starts.now l.i p3.element-from.ensures p3.element-to.ensures p3.within.ensures
+    c.k-1.given.1))
 
-loop-again : tie.Need-loop-preserved invariant-loop decreases-loop
+loop-again : tie.Need-loop-i-preserved invariant-loop decreases-loop
 loop-again c =
-    let p2 = c.before.before in
-    let p5 = p2.before.before.before in
-    let l = p5.before.loop in
-    let a = p5.before.before.before.before.before.before.args in
+    let p2 = c in
+    let p5 = p2 in
+    let l = p5.loop-i in
+    let a = p5.args in
     let names = names_of a.text.now a.froms.now a.tos.now in
-    l.invariant ∙ in_later (layout names a.starts.now) l.i a.n p5.loop-test.true
-    (found_as names a.starts.now l.i p2.before.before.element.ensures p2.before.element2.ensures p2.within.ensures
-    c.enum_told.given.1)
+    l.invariant ∙ in_later (layout names a.starts.now) l.i a.n p5.loop-i-test.true
+    (found_as names a.starts.now l.i p2.element-from.ensures p2.element-to.ensures p2.within.ensures
+    c.enum_told-1.given.1)
 
-returns-2 : tie.Need-returns-2 invariant-loop decreases-loop
+returns-2 : tie.Need-returns invariant-loop decreases-loop
 returns-2 c =
-    let l = c.before.loop in
-    let a = c.before.before.before.before.before.before.args in
+    let l = c.loop-i in
+    let a = c.args in
     let names = names_of a.text.now a.froms.now a.tos.now in
-    sym (l.invariant ∙ in_none (layout names a.starts.now) l.i a.n c.loop-test.false)
+    sym (l.invariant ∙ in_none (layout names a.starts.now) l.i a.n c.loop-i-test.false)
 
 pub repeated_spec : {M : Type 1} → statement M
 repeated_spec =

@@ -7,31 +7,31 @@ use borrow.Author.Rules.{rules}
 use Rattle.layout_names.proofs.within.Statement.{statement}
 use Rattle.layout_names.proofs.within.Tie as tie
 
-abbrev invariant-loop : tie.invariant-loop
+abbrev invariant-loop : tie.invariant-loop-k
 invariant-loop text froms tos from to k₀ k =
     first_within (names_of text froms tos) from to ≡ first_of (earlier (names_of text froms tos) from) (to - k) k
 
-abbrev decreases-loop : tie.decreases-loop
+abbrev decreases-loop : tie.decreases-loop-k
 decreases-loop text froms tos from to k₀ k = to - k
 
-loop-holds : tie.Need-loop-init invariant-loop decreases-loop
+loop-holds : tie.Need-loop-k-init invariant-loop decreases-loop
 unfolding first_within
 loop-holds c = refl
 
-returns : tie.Need-returns invariant-loop decreases-loop
+returns : tie.Need-returns-then-earlier invariant-loop decreases-loop
 returns c =
-    let l = c.before.before.before.loop in
-    sym (l.invariant ∙ first-here _ l.k _ c.before.before.loop-test.true (sym c.before.earlier.ensures ∙ c.if1.true))
+    let l = c.loop-k in
+    sym (l.invariant ∙ first-here _ l.k _ c.loop-k-test.true (sym c.earlier.ensures ∙ c.if-earlier.true))
 
-loop-again : tie.Need-loop-preserved invariant-loop decreases-loop
+loop-again : tie.Need-loop-k-preserved invariant-loop decreases-loop
 loop-again c =
-    let l = c.before.before.before.loop in
-    l.invariant ∙ first-later _ l.k _ c.before.before.loop-test.true (sym c.before.earlier.ensures ∙ c.if1.false)
+    let l = c.loop-k in
+    l.invariant ∙ first-later _ l.k _ c.loop-k-test.true (sym c.earlier.ensures ∙ c.if-earlier.false)
 
-returns-2 : tie.Need-returns-2 invariant-loop decreases-loop
+returns-2 : tie.Need-returns invariant-loop decreases-loop
 returns-2 c =
-    let l = c.before.loop in
-    sym (l.invariant ∙ first-none _ l.k _ c.loop-test.false)
+    let l = c.loop-k in
+    sym (l.invariant ∙ first-none _ l.k _ c.loop-k-test.false)
 
 pub within_spec : {M : Type 1} → statement M
 within_spec =

@@ -10,18 +10,18 @@ use borrow.Author.Rules.{rules}
 use Rattle.listing.proofs.frame_lines.Statement.{statement}
 use Rattle.listing.proofs.frame_lines.Tie as tie
 
-abbrev start : tie.After-answer-line → tie.Start
+abbrev start : tie.After-answer_line-next → tie.Start
 start c = c.before.before.before.before.before.before
 
 -- how many packets there are
 many : (c : tie.After-wide) → c.wide.result ≡ (told
     (start c.before.before.before.before.before.before.before).args.answer).fields.packets
-many c = told-packets c.before.before.before.answer.given.1 c.wide.ensures
+many c = told-packets c.answer-1.given.1 c.wide.ensures
 
-packet-lines-requires : tie.Need-packet-lines-requires
+packet-lines-requires : tie.Need-packet_lines-requires
 packet-lines-requires c κs =
     let c7 = c.before.before.before.before.before.before.before in
-    let l = c7.answer-line in
+    let l = c7.answer_line-next in
     let s = start c7 in
     let a = s.args in
     let few : c.wide.result ≤ 16 = omega (arith, many c, s.pre.1.0) in (
@@ -42,23 +42,23 @@ packet-lines-requires c κs =
       ),
     )
 
-returns : tie.Need-returns
+returns : tie.Need-returns-in-Accepted
 returns c =
     let w = c.before.before.before in
-    let l = w.before.before.before.before.before.before.before.answer-line in
+    let l = w.answer_line-next in
     let s = start w.before.before.before.before.before.before.before in
     let a = s.args in
     with_packets a.answer a.arrival a.octets.now a.lengths.now a.firsts.now (omega (arith, s.pre.0)) l.ensures
-    (many w) (omega (arith, many w, s.pre.1.0)) c.before.before.packet-lines.ensures
+    (many w) (omega (arith, many w, s.pre.1.0)) c.packet_lines.ensures
 
-returns-2 : tie.Need-returns-2
+returns-2 : tie.Need-returns-in-Refused
 returns-2 c =
     let c4 = c.before.before.before.before in
-    let l = c4.answer-line in
+    let l = c4.answer_line-next in
     let s = start c4 in
     let a = s.args in
     without_packets a.answer a.arrival a.octets.now a.lengths.now a.firsts.now (omega (arith, s.pre.0)) l.ensures
-    c.enum_told.given.1
+    c.enum_told-1.given.1
 
 pub frame_lines_spec : {M : Type 1} → statement M
 frame_lines_spec =

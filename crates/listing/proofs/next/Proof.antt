@@ -11,104 +11,104 @@ use Rattle.listing.proofs.Sofar.{on-header, on-nothing, on-offered, carried, sto
 use Rattle.listing.proofs.next.Statement.{statement}
 use Rattle.listing.proofs.next.Tie as tie
 
-abbrev invariant-loop : tie.invariant-loop
+abbrev invariant-loop : tie.invariant-loop-out
 invariant-loop window kept₀ out₀ octets₀ lengths₀ firsts₀ source₀ session₀ at₀ size₀ kept out octets lengths firsts source session at size =
     Sofar source₀ session₀ kept₀ window out₀ kept out source session at size
     × (length octets ≡ 501) × (length lengths ≡ 16) × (length firsts ≡ 16)
 
-abbrev decreases-loop : tie.decreases-loop
+abbrev decreases-loop : tie.decreases-loop-out
 decreases-loop window kept₀ out₀ octets₀ lengths₀ firsts₀ source₀ session₀ at₀ size₀ kept out octets lengths firsts source session at size =
     length window - at
 
-loop-holds : tie.Need-loop-init invariant-loop decreases-loop
+loop-holds : tie.Need-loop-out-init invariant-loop decreases-loop
 loop-holds c = (none_yet _ _ _ _ _, search rules, search rules, search rules)
 
-returns : tie.Need-returns invariant-loop decreases-loop
+returns : tie.Need-returns-in-Missing invariant-loop decreases-loop
 returns c =
-    let s = c.before.before.before.before in
-    let t = s.before.before.before in
-    stop-missing t.before.loop.invariant.0 s.scan.ensures t.loop-test.true c.before.before.taken.given.1 c.stopped.ensures
+    let s = c in
+    let t = s in
+    stop-missing t.loop-out.invariant.0 s.scan-scanned.ensures t.loop-out-test.true c.taken-1.given.1 c.stopped.ensures
 
-returns-2 : tie.Need-returns-2 invariant-loop decreases-loop
+returns-2 : tie.Need-returns-in-Over invariant-loop decreases-loop
 returns-2 c =
-    let s = c.before.before.before in
-    let t = s.before.before.before in
-    stop-over t.before.loop.invariant.0 s.scan.ensures t.loop-test.true c.before.enum_told.given.1 c.stopped2.ensures
+    let s = c in
+    let t = s in
+    stop-over t.loop-out.invariant.0 s.scan-scanned.ensures t.loop-out-test.true c.enum_told-1.given.1 c.stopped-in-Over.ensures
 
-returns-3 : tie.Need-returns-3 invariant-loop decreases-loop
+returns-3 : tie.Need-returns-in-Bad invariant-loop decreases-loop
 returns-3 c =
-    let b = c.before.before.before in
-    let s = b.before.before.before.before in
-    let t = s.before.before.before in
-    stop-bad t.before.loop.invariant.0 s.scan.ensures t.loop-test.true b.before.before.enum-told2.given.1
-    b.bad-line.ensures c.stopped3.ensures
+    let b = c in
+    let s = b in
+    let t = s in
+    stop-bad t.loop-out.invariant.0 s.scan-scanned.ensures t.loop-out-test.true b.enum_told-in-Bad-1.given.1
+    b.bad_line.ensures c.stopped-in-Bad.ensures
 
-cast-open : tie.Need-overflow-cast-open invariant-loop decreases-loop
+cast-open : tie.Need-overflow_cast-t invariant-loop decreases-loop
 cast-open c =
-    let s = c.before.before.before in
-    omega (arith, small-t s.before.before.before.before.loop.invariant.0 s.scan.ensures c.before.taken2.given.1)
+    let s = c in
+    omega (arith, small-t s.loop-out.invariant.0 s.scan-scanned.ensures c.taken-in-Opened-1.given.1)
 
-frame-lines-requires : tie.Need-frame-lines-requires invariant-loop decreases-loop
+frame-lines-requires : tie.Need-frame_lines-size-requires invariant-loop decreases-loop
 frame-lines-requires c κs =
-    let o = c.before.before.before.before.before.before.before.before in
-    let s = o.before.before.before.before.before.before.before in
-    let t = s.before.before.before in
-    let l = t.before.loop in
+    let o = c in
+    let s = o in
+    let t = s in
+    let l = t.loop-out in
     let n = l.invariant in
-    let x = stretch n.0 s.scan.ensures t.loop-test.true in
-    let few = few-packets l.session x n.1 n.2 n.3 o.offer.ensures in
-    let there = packets-there l.session x n.1 n.2 n.3 o.offer.ensures in
-    let sizes = lengths-long l.session x n.1 n.2 n.3 o.offer.ensures in
-    let numbers = numbers-long l.session x n.1 n.2 n.3 o.offer.ensures in
-    (fits n.0 s.scan.ensures t.loop-test.true, (few, ((sizes, numbers), there)))
+    let x = stretch n.0 s.scan-scanned.ensures t.loop-out-test.true in
+    let few = few-packets l.session x n.1 n.2 n.3 o.offer-stepped.ensures in
+    let there = packets-there l.session x n.1 n.2 n.3 o.offer-stepped.ensures in
+    let sizes = lengths-long l.session x n.1 n.2 n.3 o.offer-stepped.ensures in
+    let numbers = numbers-long l.session x n.1 n.2 n.3 o.offer-stepped.ensures in
+    (fits n.0 s.scan-scanned.ensures t.loop-out-test.true, (few, ((sizes, numbers), there)))
 
-add_at : tie.Need-overflow-add-at invariant-loop decreases-loop
+add_at : tie.Need-overflow_add-at invariant-loop decreases-loop
 add_at c =
-    let s = c.before.before in
-    omega (arith, turn_inside s.before.before.before.before.loop.invariant.0 s.scan.ensures)
+    let s = c in
+    omega (arith, turn_inside s.loop-out.invariant.0 s.scan-scanned.ensures)
 
-loop-less : tie.Need-loop-smaller invariant-loop decreases-loop
+loop-less : tie.Need-loop-out-smaller invariant-loop decreases-loop
 loop-less c =
-    let s = c.before.before in
-    let n = s.before.before.before.before.loop.invariant.0 in
+    let s = c in
+    let n = s.loop-out.invariant.0 in
     ⊎_elim
-    (λ w. less_header n s.scan.ensures w.1.given.1)
-    (⊎_elim (λ w. less_nothing n s.scan.ensures w.1.given.1) (λ w. less_offered n s.scan.ensures w.0.keys6))
-    c.before.match.branch
+    (λ w. less_header n s.scan-scanned.ensures w.1.given.1)
+    (⊎_elim (λ w. less_nothing n s.scan-scanned.ensures w.1.given.1) (λ w. less_offered n s.scan-scanned.ensures w.0.keys6))
+    c.match-taken.branch
 
-loop-again : tie.Need-loop-preserved invariant-loop decreases-loop
+loop-again : tie.Need-loop-out-preserved invariant-loop decreases-loop
 loop-again c =
-    let s = c.before.before in
-    let t = s.before.before.before in
-    let l = t.before.loop in
+    let s = c in
+    let t = s in
+    let l = t.loop-out in
     let n = l.invariant in
-    let x = stretch n.0 s.scan.ensures t.loop-test.true in
+    let x = stretch n.0 s.scan-scanned.ensures t.loop-out-test.true in
     ⊎_elim
     (λ w. carried w.9 w.10 w.11 w.12 w.13 w.14 (
-      on-header n.0 s.scan.ensures t.loop-test.true w.1.given.1 w.6.ensures w.6.kept.0 w.3.ensures.session,
+      on-header n.0 s.scan-scanned.ensures t.loop-out-test.true w.1.given.1 w.6.ensures w.6.kept.0 w.3.ensures.session,
       n.1,
       n.2,
       n.3,
     ))
     (⊎_elim
     (λ w. carried w.2 w.3 w.4 w.5 w.6 w.7 (
-      on-nothing n.0 s.scan.ensures t.loop-test.true w.1.given.1,
+      on-nothing n.0 s.scan-scanned.ensures t.loop-out-test.true w.1.given.1,
       n.1,
       n.2,
       n.3,
     ))
     (λ w. carried w.18 w.19 w.20 w.21 w.22 w.23 (
-      on-offered n.0 s.scan.ensures t.loop-test.true w.0.keys6 w.15.ensures w.15.kept.0
+      on-offered n.0 s.scan-scanned.ensures t.loop-out-test.true w.0.keys6 w.15.ensures w.15.kept.0
           (frame-text l.session x n.1 n.2 n.3 w.6.ensures)
           (stepped-session l.session x n.1 n.2 n.3 w.6.ensures),
       octets-long l.session x n.1 n.2 n.3 w.6.ensures,
       lengths-long l.session x n.1 n.2 n.3 w.6.ensures,
       numbers-long l.session x n.1 n.2 n.3 w.6.ensures,
     )))
-    c.before.match.branch
+    c.match-taken.branch
 
-returns-4 : tie.Need-returns-4 invariant-loop decreases-loop
-returns-4 c = stop-full c.before.before.loop.invariant.0 c.before.loop-test.false c.stopped4.ensures
+returns-4 : tie.Need-returns invariant-loop decreases-loop
+returns-4 c = stop-full c.loop-out.invariant.0 c.loop-out-test.false c.stopped-2.ensures
 
 pub next_spec : {M : Type 1} → statement M
 next_spec =

@@ -12,17 +12,17 @@ use Rattle.listing_lines.proofs.accepted.Tie as tie
 returns : tie.Need-returns
 unfolding accepted_line
 returns c =
-    let c7 = c.before.before.before.before.before.before.before in
-    let c11 = c7.before.before.before.before in
-    let c15 = c11.before.before.before.before in
-    let start = c15.before.before.before.before.before in
+    let c7 = c in
+    let c11 = c7 in
+    let c15 = c11 in
+    let start = c15 in
     let args = start.args in
-    let numbers = c15.numbers in
-    let lost = c11.loss in
-    let master = c7.loss2 in
+    let numbers = c15.numbers-next in
+    let lost = c11.loss-after in
+    let master = c7.loss-last in
     resaid refl (omega arith)
     (losses_then (args.arrival ∷ 0 ∷ args.a.channel ∷ []) args.a.lost args.a.master args.a.packets
-    numbers.ensures lost.ensures master.ensures c.before.before.number.ensures (omega (arith, start.requires))
+    numbers.ensures lost.ensures master.ensures c.number.ensures (omega (arith, start.requires))
     numbers.auto.0 lost.auto.0 master.auto.0)
 
 pub accepted_spec : {M : Type 1} → statement M

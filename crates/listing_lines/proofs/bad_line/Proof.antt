@@ -6,25 +6,25 @@ use borrow.Author.Rules.{rules}
 use Rattle.listing_lines.proofs.bad_line.Statement.{statement}
 use Rattle.listing_lines.proofs.bad_line.Tie as tie
 
-returns : tie.Need-returns
+returns : tie.Need-returns-then-no_room
 returns c =
-    let c4 = c.before.before.before.before in
-    none-put c4.args.out.now c4.args.at c.before.no_room.ensures c.if1.true
+    let c4 = c in
+    none-put c4.args.out.now c4.args.at c.no_room.ensures c.if-no_room.true
 
-add-result : tie.Need-overflow-add-result
+add-result : tie.Need-overflow_add-result
 add-result c =
-    let c5 = c.before.before.before.before.before in
-    let c6 = c5.before in
-    let c9 = c6.before.before.before in
-    omega (arith, some-room c9.args.out.now c9.args.at c6.no_room.ensures c5.if1.false)
+    let c5 = c in
+    let c6 = c5 in
+    let c9 = c6 in
+    omega (arith, some-room c9.args.out.now c9.args.at c6.no_room.ensures c5.if-no_room.false)
 
-returns-2 : tie.Need-returns-2
+returns-2 : tie.Need-returns
 returns-2 c =
-    let c5 = c.before.before.before.before.before in
-    let c6 = c5.before in
-    let c9 = c6.before.before.before in
-    words_put c9.args.out.now c9.args.at c6.no_room.ensures bad_recording c5.if1.false (search rules)
-    c.before.before.put.ensures
+    let c5 = c in
+    let c6 = c5 in
+    let c9 = c6 in
+    words_put c9.args.out.now c9.args.at c6.no_room.ensures bad_recording c5.if-no_room.false (search rules)
+    c.put.ensures
 
 pub bad_line_spec : {M : Type 1} → statement M
 bad_line_spec =

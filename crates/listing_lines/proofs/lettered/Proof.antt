@@ -10,13 +10,13 @@ use Rattle.listing_lines.proofs.lettered.Tie as tie
 
 returns : tie.Need-returns
 returns c =
-    let c6 = c.before.before.before.before.before.before in
-    let c10 = c6.before.before.before.before in
-    let c15 = c10.before.before.before.before.before in
+    let c6 = c in
+    let c10 = c6 in
+    let c15 = c10 in
     resaid refl (omega (arith, c15.requires.1))
     (joined (omega (arith, c15.requires.0)) (put-laid {text = c15.args.x ∷ 32 ∷ []} (omega (arith, c15.requires.0)) c10.put.ensures)
     (numbers_then c15.args.list.now c15.args.size 10 (omega (arith, c15.requires.0, c15.requires.1, c10.put.auto.0))
-    c6.numbers.auto.0 c6.numbers.ensures c.before.before.number.ensures))
+    c6.numbers-next.auto.0 c6.numbers-next.ensures c.number.ensures))
 
 pub lettered_spec : {M : Type 1} → statement M
 lettered_spec =

@@ -4,11 +4,11 @@ use borrow.Author.Rules.{rules}
 use Rattle.listing_lines.proofs.loss.Statement.{statement}
 use Rattle.listing_lines.proofs.loss.Tie as tie
 
-returns : tie.Need-returns
-returns c = unknown-put c.before.before.before.before.enum_told.given.1 c.before.before.mark.ensures
+returns : tie.Need-returns-in-Unknown
+returns c = unknown-put c.enum_told-1.given.1 c.mark.ensures
 
-returns-2 : tie.Need-returns-2
-returns-2 c = known-put c.before.before.before.before.before.lost.given.1 c.before.before.number.ensures
+returns-2 : tie.Need-returns-in-Known
+returns-2 c = known-put c.lost-1.given.1 c.number.ensures
 
 pub loss_spec : {M : Type 1} → statement M
 loss_spec =

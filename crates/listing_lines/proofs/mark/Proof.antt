@@ -5,14 +5,14 @@ use borrow.Author.Rules.{rules}
 use Rattle.listing_lines.proofs.mark.Statement.{statement}
 use Rattle.listing_lines.proofs.mark.Tie as tie
 
-returns : tie.Need-returns
+returns : tie.Need-returns-then-out-at
 returns c = no_mark (omega arith)
 
-returns-2 : tie.Need-returns-2
+returns-2 : tie.Need-returns-then-out-at-lt-NUMBER
 returns-2 c = no_mark (omega arith)
 
-returns-3 : tie.Need-returns-3
-returns-3 c = mark-put (omega arith) c.before.before.put.ensures
+returns-3 : tie.Need-returns
+returns-3 c = mark-put (omega arith) c.put.ensures
 
 pub mark_spec : {M : Type 1} → statement M
 mark_spec =

@@ -9,6 +9,6 @@ pub no_room_spec : {M : Type 1} → statement M
 no_room_spec =
     tie.close
     (tie.spec
-    (λ c. lacks_room c.before.args.out.now c.before.args.at (omega arith)) (λ c. search rules)
-    (λ c. lacks_room c.before.before.args.out.now c.before.before.args.at (omega arith))
-    (λ c. has_room c.before.before.args.out.now c.before.before.args.at (omega arith)))
+    (λ c. lacks_room c.args.out.now c.args.at (omega arith)) (λ c. search rules)
+    (λ c. lacks_room c.args.out.now c.args.at (omega arith))
+    (λ c. has_room c.args.out.now c.args.at (omega arith)))

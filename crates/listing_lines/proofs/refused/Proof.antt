@@ -9,24 +9,24 @@ use borrow.Author.Rules.{rules}
 use Rattle.listing_lines.proofs.refused.Statement.{statement}
 use Rattle.listing_lines.proofs.refused.Tie as tie
 
-add-result : tie.Need-overflow-add-result
+add-result : tie.Need-overflow_add-result
 add-result c =
-    let c7 = c.before.before.before.before.before.before.before in
-    let c11 = c7.before.before.before.before in
+    let c7 = c in
+    let c11 = c7 in
     omega (
       arith,
       c11.requires,
       (numbers-laid 32 (c11.args.arrival ∷ c11.args.refusal ∷ []) (omega (arith, c11.requires))
-          c7.numbers.ensures).near,
+          c7.numbers-next.ensures).near,
     )
 
 returns : tie.Need-returns
 unfolding refused_line
 returns c =
-    let c7 = c.before.before.before.before.before.before.before in
-    let c11 = c7.before.before.before.before in
+    let c7 = c in
+    let c11 = c7 in
     resaid refl (omega arith) (numbers-text (c11.args.arrival ∷ c11.args.refusal ∷ []) (45 ∷ 32 ∷ 45 ∷ 32 ∷ 45 ∷ 32 ∷ 45 ∷ 10 ∷ [])
-    (omega (arith, c11.requires)) c7.numbers.auto.0 c7.numbers.ensures c.before.before.put.ensures)
+    (omega (arith, c11.requires)) c7.numbers-next.auto.0 c7.numbers-next.ensures c.put.ensures)
 
 pub refused_spec : {M : Type 1} → statement M
 refused_spec =

@@ -6,7 +6,7 @@ use Rattle.listing_lines.proofs.taken.Tie as tie
 
 returns : tie.Need-returns
 unfolding packet_line
-returns c = c.before.before.lettered.ensures
+returns c = c.lettered.ensures
 
 pub taken_spec : {M : Type 1} → statement M
 taken_spec =

@@ -6,7 +6,7 @@ use Rattle.listing_lines.proofs.turned_away.Tie as tie
 
 returns : tie.Need-returns
 unfolding turned_away_line
-returns c = c.before.before.lettered.ensures
+returns c = c.lettered.ensures
 
 pub turned_away_spec : {M : Type 1} → statement M
 turned_away_spec =

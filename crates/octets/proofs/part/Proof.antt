@@ -7,15 +7,15 @@ use Rattle.octets.proofs.Placing.{part_none, part-some}
 use Rattle.octets.proofs.part.Statement.{statement}
 use Rattle.octets.proofs.part.Tie as tie
 
-returns : tie.Need-returns
+returns : tie.Need-returns-then-s-at
 returns c = part_none _ _ _ (omega arith)
 
-returns-2 : tie.Need-returns-2
+returns-2 : tie.Need-returns-then-s-at-2
 returns-2 c = part_none _ _ _ (omega arith)
 
-returns-3 : tie.Need-returns-3
+returns-3 : tie.Need-returns
 returns-3 c =
-    let a = c.before.before.before.args in
+    let a = c.args in
     let n : a.at + a.n - a.at ≡ a.n = omega arith in
     simp n (part-some a.s.now a.at a.n (omega arith))
 

@@ -10,37 +10,37 @@ use Rattle.octets.proofs.Placing.{put-none, put-fits}
 use Rattle.octets.proofs.put.Statement.{statement}
 use Rattle.octets.proofs.put.Tie as tie
 
-abbrev invariant-loop : tie.invariant-loop
+abbrev invariant-loop : tie.invariant-loop-i
 invariant-loop out₀ at src n i₀ out i = (i ≤ length src) × (length out ≡ length out₀) × (out ≡ paste out₀ at src i)
 
-abbrev decreases-loop : tie.decreases-loop
+abbrev decreases-loop : tie.decreases-loop-i
 decreases-loop out₀ at src n i₀ out i = length src - i
 
-returns : tie.Need-returns invariant-loop decreases-loop
+returns : tie.Need-returns-then-out-n invariant-loop decreases-loop
 returns c = put-none _ _ _ (omega arith)
 
-returns-2 : tie.Need-returns-2 invariant-loop decreases-loop
+returns-2 : tie.Need-returns-then-out-n-2 invariant-loop decreases-loop
 returns-2 c = put-none _ _ _ (omega arith)
 
-loop-holds : tie.Need-loop-init invariant-loop decreases-loop
+loop-holds : tie.Need-loop-i-init invariant-loop decreases-loop
 loop-holds c =
-    let a = c.before.before.args in
+    let a = c.args in
     (search rules, search rules, paste-zero a.out.now a.at a.src.now)
 
-loop-again : tie.Need-loop-preserved invariant-loop decreases-loop
+loop-again : tie.Need-loop-i-preserved invariant-loop decreases-loop
 loop-again c =
-    let k = c.before.before.loop.invariant in
-    let a = c.before.before.before.before.before.args in (
+    let k = c.loop-i.invariant in
+    let a = c.args in (
       search rules,
       simp length-set (search rules),
-      simp (k.2, add-one) (paste-suc a.out.now a.at a.src.now c.before.before.loop.i 0 (search rules) (search rules)),
+      simp (k.2, add-one) (paste-suc a.out.now a.at a.src.now c.loop-i.i 0 (search rules) (search rules)),
     )
 
-returns-3 : tie.Need-returns-3 invariant-loop decreases-loop
+returns-3 : tie.Need-returns invariant-loop decreases-loop
 returns-3 c =
-    let a = c.before.before.before.before.args in
-    let e : c.before.loop.i ≡ length a.src.now = search rules in
-    (simp (c.before.loop.invariant.2, e, take-length)) ∙ put-fits a.out.now a.at a.src.now (omega arith)
+    let a = c.args in
+    let e : c.loop-i.i ≡ length a.src.now = search rules in
+    (simp (c.loop-i.invariant.2, e, take-length)) ∙ put-fits a.out.now a.at a.src.now (omega arith)
 
 pub put_spec : {M : Type 1} → statement M
 put_spec =

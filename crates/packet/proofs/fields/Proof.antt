@@ -7,8 +7,8 @@ use Rattle.packet.proofs.fields.Tie as tie
 returns : tie.Need-returns
 unfolding fields_of
 returns c =
-    let count = c.before.before.before.before.before.before.before.before in
-    simp (c.five.ensures, count.word2.ensures, count.before.before.before.word.ensures)
+    let count = c in
+    simp (c.five.ensures, count.word-2.ensures, count.word.ensures)
 
 pub fields_spec : {M : Type 1} → statement M
 fields_spec =

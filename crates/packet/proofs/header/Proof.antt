@@ -4,7 +4,7 @@ use Rattle.packet.proofs.header.Statement.{statement}
 use Rattle.packet.proofs.header.Tie as tie
 
 returns : tie.Need-returns
-returns c = simp c.before.before.five-octets.ensures
+returns c = simp c.five_octets-time.ensures
 
 pub header_spec : {M : Type 1} → statement M
 header_spec =

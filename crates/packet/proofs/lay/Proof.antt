@@ -6,7 +6,7 @@ use Rattle.packet.proofs.Laws.{laid}
 use Rattle.packet.proofs.lay.Statement.{statement}
 use Rattle.packet.proofs.lay.Tie as tie
 
-slice-aggregate-packet-check : tie.Need-slice-aggregate-packet-check
+slice-aggregate-packet-check : tie.Need-slice_bounds-packet_check-end-2
 slice-aggregate-packet-check c = sym (length-take-le _ _ (search rules))
 
 pub lay_spec : {M : Type 1} → statement M

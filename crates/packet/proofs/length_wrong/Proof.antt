@@ -5,7 +5,7 @@ use Rattle.packet.specs.Packet.{length_wrong}
 use Rattle.packet.proofs.length_wrong.Statement.{statement}
 use Rattle.packet.proofs.length_wrong.Tie as tie
 
-returns-2 : tie.Need-returns-2
+returns-2 : tie.Need-returns
 unfolding length_wrong
 returns-2 c = search (tests, c.word.ensures)
 

@@ -3,10 +3,10 @@ use Rattle.std.proofs.Common.{◌≡◌, length, rules}
 use Rattle.picture_cases.proofs.run.Statement.{statement}
 use Rattle.picture_cases.proofs.run.Tie as tie
 
-abbrev invariant-loop : tie.invariant-loop
+abbrev invariant-loop : tie.invariant-loop-left
 invariant-loop n out₀ at octet left₀ end₀ out left end = length out ≡ length out₀
 
-abbrev decreases-loop : tie.decreases-loop
+abbrev decreases-loop : tie.decreases-loop-left
 decreases-loop n out₀ at octet left₀ end₀ out left end = left
 
 pub run_spec : {M : Type 1} → statement M

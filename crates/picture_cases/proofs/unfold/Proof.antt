@@ -3,10 +3,10 @@ use Rattle.std.proofs.Common.{◌≡◌, ◌-◌, length, rules}
 use Rattle.picture_cases.proofs.unfold.Statement.{statement}
 use Rattle.picture_cases.proofs.unfold.Tie as tie
 
-abbrev invariant-loop : tie.invariant-loop
+abbrev invariant-loop : tie.invariant-loop-at
 invariant-loop runs out₀ end₀ at₀ out end at = length out ≡ length out₀
 
-abbrev decreases-loop : tie.decreases-loop
+abbrev decreases-loop : tie.decreases-loop-at
 decreases-loop runs out₀ end₀ at₀ out end at = length runs - at
 
 pub unfold_spec : {M : Type 1} → statement M

@@ -3,7 +3,7 @@ use Rattle.std.proofs.Common.{sym, length-take-le, rules}
 use Rattle.picture_cases.proofs.write.Statement.{statement}
 use Rattle.picture_cases.proofs.write.Tie as tie
 
-numbers-lent : tie.Need-slice-aggregate-written
+numbers-lent : tie.Need-slice_bounds-written-end
 numbers-lent c = sym (length-take-le _ _ (search rules))
 
 pub write_spec : {M : Type 1} → statement M

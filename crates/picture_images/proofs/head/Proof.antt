@@ -5,38 +5,38 @@ use borrow.Author.Rules.{rules}
 use Rattle.picture_images.proofs.head.Statement.{statement}
 use Rattle.picture_images.proofs.head.Tie as tie
 
-lay-requires : tie.Need-lay-requires
+lay-requires : tie.Need-lay-at-requires
 lay-requires c κs =
-    let p3 = c.before.before.before in
+    let p3 = c in
     omega (arith, p3.requires)
 
 told-requires : tie.Need-told-requires
 told-requires c κs =
-    let p5 = c.before.before.before.before.before in
-    let p9 = p5.before.before.before.before in
-    omega (arith, p9.requires, p5.lay.auto.0, p5.lay.ensures.near)
+    let p5 = c in
+    let p9 = p5 in
+    omega (arith, p9.requires, p5.lay-at.auto.0, p5.lay-at.ensures.near)
 
-returns : tie.Need-returns
+returns : tie.Need-returns-then-n-eq1
 returns c =
-    let p5 = c.before.before.before.before.before in
-    let p8 = p5.before.before.before in
-    let p12 = p8.before.before.before.before in
+    let p5 = c in
+    let p8 = p5 in
+    let p12 = p8 in
     let a = p12.args in
-    one-headed a.wanted a.n p8.lay.ensures p5.if1.true c.before.before.told.ensures
+    one-headed a.wanted a.n p8.lay-at.ensures p5.if-n-eq1.true c.told.ensures
 
 told-requires-2 : tie.Need-told-requires-2
 told-requires-2 c κs =
-    let p5 = c.before.before.before.before.before in
-    let p9 = p5.before.before.before.before in
-    omega (arith, p9.requires, p5.lay.auto.0, p5.lay.ensures.near)
+    let p5 = c in
+    let p9 = p5 in
+    omega (arith, p9.requires, p5.lay-at.auto.0, p5.lay-at.ensures.near)
 
-returns-2 : tie.Need-returns-2
+returns-2 : tie.Need-returns
 returns-2 c =
-    let p5 = c.before.before.before.before.before in
-    let p8 = p5.before.before.before in
-    let p12 = p8.before.before.before.before in
+    let p5 = c in
+    let p8 = p5 in
+    let p12 = p8 in
     let a = p12.args in
-    many-headed a.wanted a.n p8.lay.ensures p5.if1.false c.before.before.told2.ensures
+    many-headed a.wanted a.n p8.lay-at.ensures p5.if-n-eq1.false c.told-2.ensures
 
 pub head_spec : {M : Type 1} → statement M
 head_spec =

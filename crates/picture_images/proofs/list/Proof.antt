@@ -8,34 +8,34 @@ use Rattle.picture_images.proofs.list.Tie as tie
 
 names-requires : tie.Need-names-requires
 names-requires c κs =
-    let s = c.before.before.before.before in
-    record { held = omega (arith, s.requires.all); few = omega arith; room = omega (arith, s.requires.room, c.before.if1.true) }
+    let s = c in
+    record { held = omega (arith, s.requires.all); few = omega arith; room = omega (arith, s.requires.room, c.if-n-le-NAMED.true) }
 
-returns : tie.Need-returns
+returns : tie.Need-returns-then-n-le-NAMED
 returns c =
-    let p4 = c.before.before.before.before in
-    let s = p4.before.before.before in
-    few-listed (images_in s.args.images.now) s.requires.all p4.if1.true c.before.before.names.ensures
+    let p4 = c in
+    let s = p4 in
+    few-listed (images_in s.args.images.now) s.requires.all p4.if-n-le-NAMED.true c.names.ensures
 
-names-requires-2 : tie.Need-names-requires-2
+names-requires-2 : tie.Need-names-next-requires
 names-requires-2 c κs =
-    let s = c.before.before.before.before in
-    record { held = omega (arith, s.requires.all, c.before.if1.false); few = omega arith; room = omega (arith, s.requires.room) }
+    let s = c in
+    record { held = omega (arith, s.requires.all, c.if-n-le-NAMED.false); few = omega arith; room = omega (arith, s.requires.room) }
 
 told-requires : tie.Need-told-requires
 told-requires c κs =
-    let p4 = c.before.before.before.before in
-    let s = p4.before.before.before.before.before in
-    let n = p4.names2 in
+    let p4 = c in
+    let s = p4 in
+    let n = p4.names-next in
     omega (arith, s.requires.room, n.auto.0, n.ensures.near)
 
-returns-2 : tie.Need-returns-2
+returns-2 : tie.Need-returns
 returns-2 c =
-    let p7 = c.before.before.before.before.before.before.before in
-    let p9 = p7.before.before in
-    let s = p9.before.before.before in
-    many-listed (images_in s.args.images.now) s.requires.all p9.if1.false (omega (arith, s.requires.room)) p7.names2.ensures
-    c.before.before.told.ensures
+    let p7 = c in
+    let p9 = p7 in
+    let s = p9 in
+    many-listed (images_in s.args.images.now) s.requires.all p9.if-n-le-NAMED.false (omega (arith, s.requires.room)) p7.names-next.ensures
+    c.told.ensures
 
 pub list_spec : {M : Type 1} → statement M
 list_spec =

@@ -7,38 +7,38 @@ use Rattle.picture_images.proofs.name.Tie as tie
 
 told-requires : tie.Need-told-requires
 told-requires c κs =
-    let p4 = c.before.before.before.before in
+    let p4 = c in
     omega (arith, p4.requires)
 
-returns : tie.Need-returns
+returns : tie.Need-returns-then-behind-eq0
 returns c =
-    let p5 = c.before.before.before.before.before in
-    let p7 = p5.before.before in
-    last_name p7.args.image p7.args.behind p5.if1.true c.before.before.told.ensures
+    let p5 = c in
+    let p7 = p5 in
+    last_name p7.args.image p7.args.behind p5.if-behind-eq0.true c.told.ensures
 
-told-requires-2 : tie.Need-told-requires-2
+told-requires-2 : tie.Need-told-requires-then-behind-eq1
 told-requires-2 c κs =
-    let p5 = c.before.before.before.before.before in
+    let p5 = c in
     omega (arith, p5.requires)
 
-returns-2 : tie.Need-returns-2
+returns-2 : tie.Need-returns-then-behind-eq1
 returns-2 c =
-    let p5 = c.before.before.before.before.before in
-    let p6 = p5.before in
-    let p8 = p6.before.before in
-    next-to-last p8.args.image p8.args.behind p6.if1.false p5.if2.true c.before.before.told2.ensures
+    let p5 = c in
+    let p6 = p5 in
+    let p8 = p6 in
+    next-to-last p8.args.image p8.args.behind p6.if-behind-eq0.false p5.if-behind-eq1.true c.told-then-behind-eq1.ensures
 
-told-requires-3 : tie.Need-told-requires-3
+told-requires-3 : tie.Need-told-requires-2
 told-requires-3 c κs =
-    let p5 = c.before.before.before.before.before in
+    let p5 = c in
     omega (arith, p5.requires)
 
-returns-3 : tie.Need-returns-3
+returns-3 : tie.Need-returns
 returns-3 c =
-    let p5 = c.before.before.before.before.before in
-    let p6 = p5.before in
-    let p8 = p6.before.before in
-    earlier-name p8.args.image p8.args.behind p6.if1.false p5.if2.false c.before.before.told3.ensures
+    let p5 = c in
+    let p6 = p5 in
+    let p8 = p6 in
+    earlier-name p8.args.image p8.args.behind p6.if-behind-eq0.false p5.if-behind-eq1.false c.told-2.ensures
 
 pub name_spec : {M : Type 1} → statement M
 name_spec =

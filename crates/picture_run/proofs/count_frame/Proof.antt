@@ -4,21 +4,21 @@ use borrow.Author.Rules.{rules}
 use Rattle.picture_run.proofs.count_frame.Statement.{statement}
 use Rattle.picture_run.proofs.count_frame.Tie as tie
 
-returns : tie.Need-returns
-returns c = none-counted c.before.before.args.frames.now c.before.before.args.pull c.match.keys2
+returns : tie.Need-returns-in_default
+returns c = none-counted c.args.frames.now c.args.pull c.in_default.keys2
 
-returns-2 : tie.Need-returns-2
+returns-2 : tie.Need-returns-in_default-answer
 returns-2 c =
-    let p3 = c.before.before.before in
-    let p6 = p3.before.before.before in
-    accepted-counted p6.args.frames.now p3.pull.given.1 c.enum_told.given.1
+    let p3 = c in
+    let p6 = p3 in
+    accepted-counted p6.args.frames.now p3.pull-1.given.1 c.enum_told-1.given.1
 
-returns-3 : tie.Need-returns-3
+returns-3 : tie.Need-returns
 returns-3 c =
-    let p5 = c.before.before.before.before.before in
-    let p8 = p5.before.before.before in
-    let p11 = p8.before.before.before in
-    one-counted p11.args.frames.now p8.pull.given.1 p5.answer.given.1 c.before.before.count.ensures
+    let p5 = c in
+    let p8 = p5 in
+    let p11 = p8 in
+    one-counted p11.args.frames.now p8.pull-1.given.1 p5.answer-1.given.1 c.count.ensures
 
 pub count_frame_spec : {M : Type 1} → statement M
 count_frame_spec =

@@ -8,11 +8,11 @@ use Rattle.picture_run.proofs.show_image.Tie as tie
 
 returns : tie.Need-returns
 returns c =
-    let p7 = c.before.before.before.before.before.before.before in
-    let p16 = p7.before.before.before.before.before.before.before.before.before in
-    let p22 = p16.before.before.before.before.before.before in
-    let p23 = p22.before in
-    shown p23.black.ensures p22.unnoted.ensures p16.turns.ensures p7.finish.ensures
+    let p7 = c in
+    let p16 = p7 in
+    let p22 = p16 in
+    let p23 = p22 in
+    shown p23.black-pixels.ensures p22.unnoted-images.ensures p16.turns-stopped.ensures p7.finish-ended.ensures
     (to_z-of_z (search rules) ∙ c.status.ensures)
 
 pub show_image_spec : {M : Type 1} → statement M

@@ -4,8 +4,8 @@ use lib.Seq.{set_out}
 use Rattle.readings_run.proofs.end_last.Statement.{statement}
 use Rattle.readings_run.proofs.end_last.Tie as tie
 
-returns-2 : tie.Need-returns-2
-returns-2 c = sym (set_out _ _ _ c.if1.false)
+returns-2 : tie.Need-returns-else-n-starts
+returns-2 c = sym (set_out _ _ _ c.if-n-starts.false)
 
 pub end_last_spec : {M : Type 1} → statement M
 end_last_spec = tie.close

@@ -6,8 +6,8 @@ use Rattle.readings_turn.proofs.begins.Tie as tie
 
 returns : tie.Need-returns
 returns c =
-    let a = c.before.before.before.args in
-    begun_as a.fresh a.first c.before.before.fresh.ensures c.before.none.ensures c.failed.ensures
+    let a = c.args in
+    begun_as a.fresh a.first c.fresh-feed.ensures c.none-read.ensures c.failed-going.ensures
 
 pub begins_spec : {M : Type 1} → statement M
 begins_spec = tie.close (tie.spec (λ c κs. search rules) (λ c κs. search rules) (λ c κs. search rules) returns)

@@ -12,7 +12,7 @@ use borrow.Author.Rules.{rules}
 use Rattle.readings_turn.proofs.turns.Statement.{statement}
 use Rattle.readings_turn.proofs.turns.Tie as tie
 
-abbrev invariant-loop : tie.invariant-loop
+abbrev invariant-loop : tie.invariant-loop-standing
 invariant-loop name descriptor input₀ text apids sids starts n codes froms tos out₀ counts₀ kept₀ octets₀ lengths₀ firsts₀ standing₀
     made₀ input out counts kept octets lengths firsts standing made =
     (length input ≡ length input₀) × (length out ≡ length out₀) × (length counts ≡ length counts₀) × (length octets ≡ 501) ×
@@ -21,71 +21,71 @@ invariant-loop name descriptor input₀ text apids sids starts n codes froms tos
     × Turning (layouts_of text apids sids starts n codes froms tos) standing₀ input₀ kept₀ (lent octets₀ lengths₀ firsts₀) out₀ counts₀
     made standing input kept (lent octets lengths firsts) out counts
 
-abbrev decreases-loop : tie.decreases-loop
+abbrev decreases-loop : tie.decreases-loop-standing
 decreases-loop name descriptor input₀ text apids sids starts n codes froms tos out₀ counts₀ kept₀ octets₀ lengths₀ firsts₀ standing₀ made₀ input
     out counts kept octets lengths firsts standing made =
     most - made
 
-loop-holds : tie.Need-loop-init invariant-loop decreases-loop
+loop-holds : tie.Need-loop-standing-init invariant-loop decreases-loop
 loop-holds c = (refl, refl, refl, refl, refl, refl, omega arith, no_turn _ _ _ _ _ _ _)
 
-same_length : tie.Need-same-length invariant-loop decreases-loop
-same_length c = c.before.before.loop.invariant.0
+same_length : tie.Need-shape_of-input-then-made invariant-loop decreases-loop
+same_length c = c.loop-standing.invariant.0
 
-same-length-2 : tie.Need-same-length-2 invariant-loop decreases-loop
-same-length-2 c = c.before.before.loop.invariant.1
+same-length-2 : tie.Need-shape_of-out-then-made invariant-loop decreases-loop
+same-length-2 c = c.loop-standing.invariant.1
 
-same-length-3 : tie.Need-same-length-3 invariant-loop decreases-loop
-same-length-3 c = c.before.before.loop.invariant.2
+same-length-3 : tie.Need-shape_of-counts-then-made invariant-loop decreases-loop
+same-length-3 c = c.loop-standing.invariant.2
 
-returns : tie.Need-returns invariant-loop decreases-loop
+returns : tie.Need-returns-then-made invariant-loop decreases-loop
 unfolding roomy
 returns c =
-    let c3 = c.before.before.before in
-    let c15 = c3.before.before.before.before.before.before.before.before.before.before.before.before in
-    let a = c.before.before.before.before.before.before.before.before.before.before.before.before.before.before.before.args in
+    let c3 = c in
+    let c15 = c3 in
+    let a = c.args in
     looped-all (layouts_of a.text.now a.apids.now a.sids.now a.starts.now a.n a.codes.now a.froms.now
     a.tos.now) a.fresh a.first
-    c3.begins.ensures c.before.before.loop.invariant.7 c.if1.true
+    c3.begins-standing.ensures c.loop-standing.invariant.7 c.if-made.true
 
-slice-aggregate-turn : tie.Need-slice-aggregate-turn invariant-loop decreases-loop
-slice-aggregate-turn c = sym c.before.before.before.before.before.loop.invariant.3
+slice-aggregate-turn : tie.Need-slice_bounds-turn-end invariant-loop decreases-loop
+slice-aggregate-turn c = sym c.loop-standing.invariant.3
 
-slice-aggregate-turn-2 : tie.Need-slice-aggregate-turn-2 invariant-loop decreases-loop
-slice-aggregate-turn-2 c = sym c.before.before.before.before.before.before.loop.invariant.4
+slice-aggregate-turn-2 : tie.Need-slice_bounds-turn-end-in-loop-standing invariant-loop decreases-loop
+slice-aggregate-turn-2 c = sym c.loop-standing.invariant.4
 
-slice-aggregate-turn-3 : tie.Need-slice-aggregate-turn-3 invariant-loop decreases-loop
-slice-aggregate-turn-3 c = sym c.before.before.before.before.before.before.before.loop.invariant.5
+slice-aggregate-turn-3 : tie.Need-slice_bounds-turn-end-in-loop-standing-2 invariant-loop decreases-loop
+slice-aggregate-turn-3 c = sym c.loop-standing.invariant.5
 
-add-made : tie.Need-overflow-add-made invariant-loop decreases-loop
+add-made : tie.Need-overflow_add-made invariant-loop decreases-loop
 add-made c =
-    let c10 = c.before.before.before.before.before.before.before.before.before.before in
-    let c15 = c10.before.before.before.before.before in
+    let c10 = c in
+    let c15 = c10 in
     record {
       fits = omega (
         arith,
-        c.before.before.before.before.before.before.before.before.before.before.before.before.before.before.before.before.before.before.before.loop.invariant.6,
-        c.before.before.before.before.before.before.before.before.before.before.before.before.before.before.before.before.before.if1.false,
+        c.loop-standing.invariant.6,
+        c.if-made.false,
       );
     }
 
-loop-less : tie.Need-loop-smaller invariant-loop decreases-loop
+loop-less : tie.Need-loop-standing-smaller invariant-loop decreases-loop
 loop-less c =
-    let c8 = c.before.before.before.before.before.before.before.before in
-    let c13 = c8.before.before.before.before.before in
+    let c8 = c in
+    let c13 = c8 in
     omega (
       arith,
-      c.before.before.before.before.before.before.before.before.before.before.before.before.before.before.before.before.before.before.before.loop.invariant.6,
-      c.before.before.before.before.before.before.before.before.before.before.before.before.before.before.before.before.before.if1.false,
+      c.loop-standing.invariant.6,
+      c.if-made.false,
     )
 
-loop-again : tie.Need-loop-preserved invariant-loop decreases-loop
+loop-again : tie.Need-loop-standing-preserved invariant-loop decreases-loop
 loop-again c =
-    let c9 = c.before.before.before.before.before.before.before.before.before in
-    let c13 = c9.before.before.before.before in
-    let c15 = c13.before.before in
-    let t = c9.turn in
-    let l = c.before.before.before.before.before.before.before.before.before.before.before.before.before.before.before.before.before.before.before.loop in (
+    let c9 = c in
+    let c13 = c9 in
+    let c15 = c13 in
+    let t = c9.turn-standing in
+    let l = c.loop-standing in (
       t.auto.1.1.0 ∙ l.inv.0,
       t.auto.1.1.1.1.1.1.1.1.1.1.1.1.1.1.1.0 ∙ l.inv.1,
       t.auto.1.1.1.1.1.1.1.1.1.1.1.1.1.1.1.1.0 ∙ l.inv.2,
@@ -95,29 +95,29 @@ loop-again c =
       omega (
         arith,
         l.inv.6,
-        c.before.before.before.before.before.before.before.before.before.before.before.before.before.before.before.before.before.if1.false,
+        c.if-made.false,
       ),
       one_turn _ _ _ _ _ _ _ l.inv.7
-          c.before.before.before.before.before.before.before.before.before.before.before.before.before.before.before.before.before.before.loop-test.true t.ensures,
+          c.loop-standing-test.true t.ensures,
     )
 
-same-length-4 : tie.Need-same-length-4 invariant-loop decreases-loop
-same-length-4 c = c.before.loop.invariant.0
+same-length-4 : tie.Need-shape_of-input invariant-loop decreases-loop
+same-length-4 c = c.loop-standing.invariant.0
 
-same-length-5 : tie.Need-same-length-5 invariant-loop decreases-loop
-same-length-5 c = c.before.loop.invariant.1
+same-length-5 : tie.Need-shape_of-out invariant-loop decreases-loop
+same-length-5 c = c.loop-standing.invariant.1
 
-same-length-6 : tie.Need-same-length-6 invariant-loop decreases-loop
-same-length-6 c = c.before.loop.invariant.2
+same-length-6 : tie.Need-shape_of-counts invariant-loop decreases-loop
+same-length-6 c = c.loop-standing.invariant.2
 
-returns-2 : tie.Need-returns-2 invariant-loop decreases-loop
+returns-2 : tie.Need-returns invariant-loop decreases-loop
 unfolding roomy
 returns-2 c =
-    let c14 = c.before.before.before.before.before.before.before.before.before.before.before.before.before.before in
+    let c14 = c in
     let a = c14.args in
     looped (layouts_of a.text.now a.apids.now a.sids.now a.starts.now a.n a.codes.now a.froms.now
     a.tos.now) a.fresh a.first
-    c.before.before.begins.ensures c.before.loop.invariant.7 c.loop-test.false
+    c.begins-standing.ensures c.loop-standing.invariant.7 c.loop-standing-test.false
 
 pub turns_spec : {M : Type 1} → statement M
 turns_spec =

@@ -5,28 +5,28 @@ use Rattle.receiver.proofs.Offering.{no_octets, no_frame_lem, frame_here, frame-
 use Rattle.receiver.proofs.frame_of.Statement.{statement}
 use Rattle.receiver.proofs.frame_of.Tie as tie
 
-returns : tie.Need-returns
+returns : tie.Need-returns-then-to-from
 returns c =
-    let t = c.before.before.before in
-    let a = t.before.before.before.args in
-    frame-none a.kept.now a.window.now t.taken.given.1 c.before.if1.true c.part.ensures
+    let t = c in
+    let a = t.args in
+    frame-none a.kept.now a.window.now t.taken-1.given.1 c.if-to-from.true c.part.ensures
 
-returns-2 : tie.Need-returns-2
+returns-2 : tie.Need-returns-else-to-from
 returns-2 c =
-    let t = c.before.before.before in
-    let a = t.before.before.before.args in
-    frame_here a.kept.now a.window.now t.taken.given.1 c.part2.ensures
+    let t = c in
+    let a = t.args in
+    frame_here a.kept.now a.window.now t.taken-1.given.1 c.part-in-Here.ensures
 
-returns-3 : tie.Need-returns-3
+returns-3 : tie.Need-returns-in-Kept
 returns-3 c =
-    let t = c.before.before.before in
-    let a = t.before.before.before.args in
-    frame-kept a.kept.now a.window.now t.taken2.given.1 c.part3.ensures
+    let t = c in
+    let a = t.args in
+    frame-kept a.kept.now a.window.now t.taken-in-Kept-1.given.1 c.part-in-Kept.ensures
 
-returns-4 : tie.Need-returns-4
+returns-4 : tie.Need-returns-in-Missing
 returns-4 c =
-    let a = c.before.before.before.args in
-    no_octets a.window.now c.part4.ensures ∙ sym (no_frame_lem a.kept.now a.window.now a.taken c.before.match.keys3)
+    let a = c.args in
+    no_octets a.window.now c.part-in-Missing.ensures ∙ sym (no_frame_lem a.kept.now a.window.now a.taken c.in-Missing.keys3)
 
 pub frame_of_spec : {M : Type 1} → statement M
 frame_of_spec =

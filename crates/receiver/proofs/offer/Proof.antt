@@ -4,19 +4,19 @@ use Rattle.receiver.proofs.Receiving.{offers-refused, offers-frame}
 use Rattle.receiver.proofs.offer.Statement.{statement}
 use Rattle.receiver.proofs.offer.Tie as tie
 
-returns : tie.Need-returns
+returns : tie.Need-returns-in-Refused
 returns c =
-    let t = c.before.before.before.before.before in
-    let a = t.before.before.before.before.before.before.args in
-    offers-refused a.session a.kept.now a.window.now a.taken t.taken.given.1 c.turn-away.ensures
+    let t = c in
+    let a = t.args in
+    offers-refused a.session a.kept.now a.window.now a.taken t.taken-1.given.1 c.turn_away-stepped.ensures
 
-returns-2 : tie.Need-returns-2
+returns-2 : tie.Need-returns-in_default
 returns-2 c =
-    let s = c.before.before.before.before.before.before in
-    let f = s.before.before.before.before in
-    let m = f.before in
-    let a = m.before.before.before.before.before.args in
-    offers-frame a.session a.kept.now a.window.now a.taken m.match.keys2 f.frame-of.ensures s.step.ensures
+    let s = c in
+    let f = s in
+    let m = f in
+    let a = m.args in
+    offers-frame a.session a.kept.now a.window.now a.taken m.in_default.keys2 f.frame_of.ensures s.step-stepped.ensures
 
 pub offer_spec : {M : Type 1} → statement M
 offer_spec =

@@ -10,4 +10,4 @@ count_spec =
     (tie.spec
     (λ c. search rules) (λ c. count-short _ c.if1.true) (λ c. search rules) (λ c. search rules) (λ c. search rules) (λ c. search rules)
     (λ c κs. search rules) (λ c. search rules)
-    (λ c. count-whole _ c.four.ensures c.before.before.before.before.before.if1.false))
+    (λ c. count-whole _ c.four.ensures c.if-n-lt4.false))

@@ -4,18 +4,18 @@ use borrow.Author.Rules.{rules}
 use Rattle.recording.proofs.frame.Statement.{statement}
 use Rattle.recording.proofs.frame.Tie as tie
 
-returns-2 : tie.Need-returns-2
-returns-2 c = frame-long _ c.before.word.ensures c.before.before.before.before.if1.false c.if2.true
+returns-2 : tie.Need-returns-then-length-gt-FRAME
+returns-2 c = frame-long _ c.word-length.ensures c.if-n-lt2.false c.if-length-gt-FRAME.true
 
-returns-3 : tie.Need-returns-3
+returns-3 : tie.Need-returns-then-n-length
 returns-3 c =
-    let c5 = c.before.before.before.before.before in
-    frame-cut _ c.before.before.word.ensures c5.if1.false c.before.if2.false c.if3.true
+    let c5 = c in
+    frame-cut _ c.word-length.ensures c5.if-n-lt2.false c.if-length-gt-FRAME.false c.if-n-length.true
 
-returns-4 : tie.Need-returns-4
+returns-4 : tie.Need-returns
 returns-4 c =
-    let c5 = c.before.before.before.before.before in
-    frame-whole _ c.before.before.word.ensures c5.if1.false c.before.if2.false c.if3.false
+    let c5 = c in
+    frame-whole _ c.word-length.ensures c5.if-n-lt2.false c.if-length-gt-FRAME.false c.if-n-length.false
 
 pub frame_spec : {M : Type 1} → statement M
 frame_spec =

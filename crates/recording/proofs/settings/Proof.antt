@@ -6,26 +6,26 @@ use borrow.Author.Rules.{rules}
 use Rattle.recording.proofs.settings.Statement.{statement}
 use Rattle.recording.proofs.settings.Tie as tie
 
-returns-2 : tie.Need-returns-2
+returns-2 : tie.Need-returns-then-four-ne1
 returns-2 c =
-    let f = c.before in
-    settings-other _ f.four.ensures f.before.before.before.before.before.if1.false c.if2.true
+    let f = c in
+    settings-other _ f.four.ensures f.if-n-lt4.false c.if-four-ne1.true
 
-returns-3 : tie.Need-returns-3
+returns-3 : tie.Need-returns-then-n-lt5
 returns-3 c =
-    let f = c.before.before in
-    settings-cut _ f.four.ensures f.before.before.before.before.before.if1.false c.before.if2.false c.if3.true
+    let f = c in
+    settings-cut _ f.four.ensures f.if-n-lt4.false c.if-four-ne1.false c.if-n-lt5.true
 
-returns-4 : tie.Need-returns-4
+returns-4 : tie.Need-returns-then-window-gt8
 returns-4 c =
-    let l = c.before.before in
-    settings-above _ l.before.before.four.ensures l.before.if2.false l.if3.false c.if4.true
+    let l = c in
+    settings-above _ l.four.ensures l.if-four-ne1.false l.if-n-lt5.false c.if-window-gt8.true
 
-returns-5 : tie.Need-returns-5
+returns-5 : tie.Need-returns
 returns-5 c =
-    let l = c.before.before.before.before in
-    ap whole c.wide.ensures ∙ settings-whole _ l.before.before.four.ensures l.before.if2.false l.if3.false
-    c.before.before.if4.false
+    let l = c in
+    ap whole c.wide.ensures ∙ settings-whole _ l.four.ensures l.if-four-ne1.false l.if-n-lt5.false
+    c.if-window-gt8.false
 
 pub settings_spec : {M : Type 1} → statement M
 settings_spec =

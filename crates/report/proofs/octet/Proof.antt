@@ -5,8 +5,8 @@ use lib.ListN.{get_or-eq_default}
 use Rattle.report.proofs.octet.Statement.{statement}
 use Rattle.report.proofs.octet.Tie as tie
 
-returns-2 : tie.Need-returns-2
-returns-2 c = sym (get_or-eq_default c.before.args.s.now 0 c.if1.false)
+returns-2 : tie.Need-returns
+returns-2 c = sym (get_or-eq_default c.args.s.now 0 c.if-i-s.false)
 
 pub octet_spec : {M : Type 1} → statement M
 octet_spec =

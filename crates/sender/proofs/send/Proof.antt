@@ -5,137 +5,137 @@ use Rattle.std.proofs.Common.{arith, rules}
 use Rattle.sender.proofs.send.Statement.{statement}
 use Rattle.sender.proofs.send.Tie as tie
 
-returns : tie.Need-returns
+returns : tie.Need-returns-then-fields_wrong-wrong
 returns c =
-    let a = c.before.before.before.before.before.before.before.before.args in
+    let a = c.args in
     let w = wanted a.common a.master a.count a.time.now a.packets.now a.lengths.now a.size in
     let l = lent a.out.now a.frames.now in
-    sent_51 w l c.before.before.fields-wrong.ensures c.before.wrong.ensures c.if1.true
+    sent_51 w l c.fields_wrong.ensures c.wrong.ensures c.if-fields_wrong-wrong.true
 
-packets-wrong-requires : tie.Need-packets-wrong-requires
+packets-wrong-requires : tie.Need-packets_wrong-requires
 packets-wrong-requires c κs =
-    let a = c.before.before.before.before.before.before.before.before.args in
+    let a = c.args in
     let w = wanted a.common a.master a.count a.time.now a.packets.now a.lengths.now a.size in
     let l = lent a.out.now a.frames.now in
-    adds w l c.before.before.fields-wrong.ensures c.before.wrong.ensures c.if1.false
+    adds w l c.fields_wrong.ensures c.wrong.ensures c.if-fields_wrong-wrong.false
 
-returns-2 : tie.Need-returns-2
+returns-2 : tie.Need-returns-then-packets_wrong
 returns-2 c =
-    let c3 = c.before.before.before in
-    let c4 = c3.before in
-    let c10 = c4.before.before.before.before.before.before in
+    let c3 = c in
+    let c4 = c3 in
+    let c10 = c4 in
     let a = c10.args in
     let w = wanted a.common a.master a.count a.time.now a.packets.now a.lengths.now a.size in
     let l = lent a.out.now a.frames.now in
-    sent_52 w l c4.fields-wrong.ensures c3.wrong.ensures c.before.before.if1.false c.before.packets-wrong.ensures
-    c.if2.true
+    sent_52 w l c4.fields_wrong.ensures c3.wrong.ensures c.if-fields_wrong-wrong.false c.packets_wrong.ensures
+    c.if-packets_wrong.true
 
-sub-if3-2 : tie.Need-overflow-sub-if3-2
+sub-if3-2 : tie.Need-overflow_sub-t
 sub-if3-2 c =
-    let c3 = c.before.before.before in
-    let c4 = c3.before in
-    let c5 = c4.before in
-    let c11 = c5.before.before.before.before.before.before in
+    let c3 = c in
+    let c4 = c3 in
+    let c5 = c4 in
+    let c11 = c5 in
     let a = c11.args in
     let w = wanted a.common a.master a.count a.time.now a.packets.now a.lengths.now a.size in
     let l = lent a.out.now a.frames.now in
-    omega (arith, c.wide.ensures, time-few w l c5.fields-wrong.ensures c4.wrong.ensures c3.if1.false)
+    omega (arith, c.wide-t.ensures, time-few w l c5.fields_wrong.ensures c4.wrong.ensures c3.if-fields_wrong-wrong.false)
 
-returns-3 : tie.Need-returns-3
+returns-3 : tie.Need-returns-then-size-t
 returns-3 c =
-    let c3 = c.before.before.before in
-    let c4 = c3.before in
-    let c5 = c4.before in
-    let c6 = c5.before in
-    let c12 = c6.before.before.before.before.before.before in
+    let c3 = c in
+    let c4 = c3 in
+    let c5 = c4 in
+    let c6 = c5 in
+    let c12 = c6 in
     let a = c12.args in
     let w = wanted a.common a.master a.count a.time.now a.packets.now a.lengths.now a.size in
     let l = lent a.out.now a.frames.now in
-    sent_53 w l c6.fields-wrong.ensures c5.wrong.ensures c4.if1.false c3.packets-wrong.ensures c.before.before.if2.false
-    (size-at a.size c.before.wide.ensures c.if3.true)
+    sent_53 w l c6.fields_wrong.ensures c5.wrong.ensures c4.if-fields_wrong-wrong.false c3.packets_wrong.ensures c.if-packets_wrong.false
+    (size-at a.size c.wide-t.ensures c.if-size-t.true)
 
-full-frames-requires : tie.Need-full-frames-requires
+full-frames-requires : tie.Need-full_frames-full-requires
 full-frames-requires c κs =
-    let c3 = c.before.before.before in
-    let c4 = c3.before in
-    let c5 = c4.before in
-    let c6 = c5.before in
-    let c12 = c6.before.before.before.before.before.before in
+    let c3 = c in
+    let c4 = c3 in
+    let c5 = c4 in
+    let c6 = c5 in
+    let c12 = c6 in
     let a = c12.args in
     let w = wanted a.common a.master a.count a.time.now a.packets.now a.lengths.now a.size in
     let l = lent a.out.now a.frames.now in
-    size-some w l c6.fields-wrong.ensures c5.wrong.ensures c4.if1.false c3.packets-wrong.ensures
-    c.before.before.if2.false
-    (size-at a.size c.before.wide.ensures c.if3.false)
+    size-some w l c6.fields_wrong.ensures c5.wrong.ensures c4.if-fields_wrong-wrong.false c3.packets_wrong.ensures
+    c.if-packets_wrong.false
+    (size-at a.size c.wide-t.ensures c.if-size-t.false)
 
-room-wrong-requires : tie.Need-room-wrong-requires
+room-wrong-requires : tie.Need-room_wrong-requires
 room-wrong-requires c κs =
-    let c5 = c.before.before.before.before.before in
-    let c6 = c5.before in
-    let c7 = c6.before in
-    let c13 = c7.before.before.before.before.before.before in
+    let c5 = c in
+    let c6 = c5 in
+    let c7 = c6 in
+    let c13 = c7 in
     let a = c13.args in
     let w = wanted a.common a.master a.count a.time.now a.packets.now a.lengths.now a.size in
     let l = lent a.out.now a.frames.now in
-    (let h = time-few w l c7.fields-wrong.ensures c6.wrong.ensures c5.if1.false in omega
-    (arith, h, c.before.before.wide.ensures))
+    (let h = time-few w l c7.fields_wrong.ensures c6.wrong.ensures c5.if-fields_wrong-wrong.false in omega
+    (arith, h, c.wide-t.ensures))
 
-returns-4 : tie.Need-returns-4
+returns-4 : tie.Need-returns-then-room_wrong
 returns-4 c =
-    let c3 = c.before.before.before in
-    let c4 = c3.before in
-    let c5 = c4.before in
-    let c6 = c5.before in
-    let c7 = c6.before in
-    let c8 = c7.before in
-    let c9 = c8.before in
-    let c15 = c9.before.before.before.before.before.before in
+    let c3 = c in
+    let c4 = c3 in
+    let c5 = c4 in
+    let c6 = c5 in
+    let c7 = c6 in
+    let c8 = c7 in
+    let c9 = c8 in
+    let c15 = c9 in
     let a = c15.args in
     let w = wanted a.common a.master a.count a.time.now a.packets.now a.lengths.now a.size in
     let l = lent a.out.now a.frames.now in
-    sent_50 w l c9.fields-wrong.ensures c8.wrong.ensures c7.if1.false c6.packets-wrong.ensures c5.if2.false
-    (size-at a.size c4.wide.ensures c3.if3.false) c.before.before.full-frames.ensures
-    (short-at _ _ _ _ c4.wide.ensures c.before.room-wrong.ensures) c.if4.true
+    sent_50 w l c9.fields_wrong.ensures c8.wrong.ensures c7.if-fields_wrong-wrong.false c6.packets_wrong.ensures c5.if-packets_wrong.false
+    (size-at a.size c4.wide-t.ensures c3.if-size-t.false) c.full_frames-full.ensures
+    (short-at _ _ _ _ c4.wide-t.ensures c.room_wrong.ensures) c.if-room_wrong.true
 
 lay-requires : tie.Need-lay-requires
 lay-requires c κs =
-    let c3 = c.before.before.before in
-    let c4 = c3.before in
-    let c5 = c4.before in
-    let c6 = c5.before in
-    let c7 = c6.before in
-    let c8 = c7.before in
-    let c9 = c8.before in
-    let c10 = c9.before in
-    let c11 = c10.before in
-    let c17 = c11.before.before.before.before.before.before in
+    let c3 = c in
+    let c4 = c3 in
+    let c5 = c4 in
+    let c6 = c5 in
+    let c7 = c6 in
+    let c8 = c7 in
+    let c9 = c8 in
+    let c10 = c9 in
+    let c11 = c10 in
+    let c17 = c11 in
     let a = c17.args in
     let w = wanted a.common a.master a.count a.time.now a.packets.now a.lengths.now a.size in
     let l = lent a.out.now a.frames.now in
-    ready w l c11.fields-wrong.ensures c10.wrong.ensures c9.if1.false c8.packets-wrong.ensures c7.if2.false
-    (size-at a.size c6.wide.ensures c5.if3.false) c4.full-frames.ensures
-    (short-at _ _ _ _ c6.wide.ensures c3.room-wrong.ensures) c.before.before.if4.false
+    ready w l c11.fields_wrong.ensures c10.wrong.ensures c9.if-fields_wrong-wrong.false c8.packets_wrong.ensures c7.if-packets_wrong.false
+    (size-at a.size c6.wide-t.ensures c5.if-size-t.false) c4.full_frames-full.ensures
+    (short-at _ _ _ _ c6.wide-t.ensures c3.room_wrong.ensures) c.if-room_wrong.false
 
-returns-5 : tie.Need-returns-5
+returns-5 : tie.Need-returns
 returns-5 c =
-    let c4 = c.before.before.before.before in
-    let c7 = c4.before.before.before in
-    let c8 = c7.before in
-    let c9 = c8.before in
-    let c10 = c9.before in
-    let c11 = c10.before in
-    let c12 = c11.before in
-    let c13 = c12.before in
-    let c14 = c13.before in
-    let c15 = c14.before in
-    let c16 = c15.before in
-    let c22 = c16.before.before.before.before.before.before in
+    let c4 = c in
+    let c7 = c4 in
+    let c8 = c7 in
+    let c9 = c8 in
+    let c10 = c9 in
+    let c11 = c10 in
+    let c12 = c11 in
+    let c13 = c12 in
+    let c14 = c13 in
+    let c15 = c14 in
+    let c16 = c15 in
+    let c22 = c16 in
     let a = c22.args in
     let w = wanted a.common a.master a.count a.time.now a.packets.now a.lengths.now a.size in
     let l = lent a.out.now a.frames.now in
-    sent-all w l c16.fields-wrong.ensures c15.wrong.ensures c14.if1.false c13.packets-wrong.ensures c12.if2.false
-    (size-at a.size c11.wide.ensures c10.if3.false) c9.full-frames.ensures
-    (short-at _ _ _ _ c11.wide.ensures c8.room-wrong.ensures) c7.if4.false c4.lay.ensures
+    sent-all w l c16.fields_wrong.ensures c15.wrong.ensures c14.if-fields_wrong-wrong.false c13.packets_wrong.ensures c12.if-packets_wrong.false
+    (size-at a.size c11.wide-t.ensures c10.if-size-t.false) c9.full_frames-full.ensures
+    (short-at _ _ _ _ c11.wide-t.ensures c8.room_wrong.ensures) c7.if-room_wrong.false c4.lay.ensures
 
 pub send_spec : {M : Type 1} → statement M
 send_spec =

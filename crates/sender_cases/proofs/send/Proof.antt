@@ -5,7 +5,7 @@ use borrow.Author.Rules.{rules}
 use Rattle.sender_cases.proofs.send.Statement.{statement}
 use Rattle.sender_cases.proofs.send.Tie as tie
 
-lengths-lent : tie.Need-slice-aggregate-send
+lengths-lent : tie.Need-slice_bounds-send-end
 lengths-lent c = sym (length-take-le _ _ (search rules))
 
 pub send_spec : {M : Type 1} → statement M

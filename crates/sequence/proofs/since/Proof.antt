@@ -9,19 +9,19 @@ use Rattle.sequence.specs.Sequence.{missing, since}
 use Rattle.sequence.proofs.since.Statement.{statement}
 use Rattle.sequence.proofs.since.Tie as tie
 
-returns : tie.Need-returns
+returns : tie.Need-returns-then-entry-eq0
 unfolding since
-returns c = picked _ _ _ (eq-eqb _ _ c.if1.true)
+returns c = picked _ _ _ (eq-eqb _ _ c.if-entry-eq0.true)
 
-returns-2 : tie.Need-returns-2
+returns-2 : tie.Need-returns-then-count-last
 unfolding since
-returns-2 c = passed _ _ _ _ (ne_eqb _ _ c.before.before.if1.false) (picked _ _ _ c.if2.true)
+returns-2 c = passed _ _ _ _ (ne_eqb _ _ c.if-entry-eq0.false) (picked _ _ _ c.if-count-last.true)
 
-returns-3 : tie.Need-returns-3
+returns-3 : tie.Need-returns
 unfolding since
 returns-3 c =
-    passed _ _ _ _ (ne_eqb _ _ c.before.before.before.if1.false)
-    (passed _ _ _ _ c.before.if2.false (ap (λ (n : ℕ). accept (missing n)) c.missing.ensures))
+    passed _ _ _ _ (ne_eqb _ _ c.if-entry-eq0.false)
+    (passed _ _ _ _ c.if-count-last.false (ap (λ (n : ℕ). accept (missing n)) c.missing.ensures))
 
 pub since_spec : {M : Type 1} → statement M
 since_spec = tie.close (tie.spec returns (λ c. search rules) returns-2 (λ c κs. search rules) returns-3)

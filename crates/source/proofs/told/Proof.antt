@@ -5,14 +5,14 @@ use Rattle.source.specs.Scan.{taken_of}
 use Rattle.source.proofs.told.Statement.{statement}
 use Rattle.source.proofs.told.Tie as tie
 
-returns : tie.Need-returns
-returns c = sym (ap taken_of c.before.section.given.1)
+returns : tie.Need-returns-in-Missing
+returns c = sym (ap taken_of c.section-1.given.1)
 
-returns-4 : tie.Need-returns-4
-returns-4 c = sym (ap taken_of c.before.section2.given.1)
+returns-4 : tie.Need-returns-in-Opened
+returns-4 c = sym (ap taken_of c.section-in-Opened-1.given.1)
 
-returns-6 : tie.Need-returns-6
-returns-6 c = sym (ap taken_of c.before.section3.given.1)
+returns-6 : tie.Need-returns-in-Here
+returns-6 c = sym (ap taken_of c.section-in-Here-1.given.1)
 
 pub told_spec : {M : Type 1} → statement M
 told_spec =

@@ -3,7 +3,7 @@ use Rattle.std.proofs.Common.{sym, length-take-le, rules}
 use Rattle.stream_cases.proofs.kiss_export.Statement.{statement}
 use Rattle.stream_cases.proofs.kiss_export.Tie as tie
 
-lengths-lent : tie.Need-slice-aggregate-write
+lengths-lent : tie.Need-slice_bounds-write-end
 lengths-lent c = sym (length-take-le _ _ (search rules))
 
 pub kiss_export_spec : {M : Type 1} → statement M

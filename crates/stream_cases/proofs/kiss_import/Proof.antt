@@ -3,10 +3,10 @@ use Rattle.std.proofs.Common.{rules}
 use Rattle.stream_cases.proofs.kiss_import.Statement.{statement}
 use Rattle.stream_cases.proofs.kiss_import.Tie as tie
 
-abbrev invariant-loop : tie.invariant-loop
+abbrev invariant-loop : tie.invariant-loop-turns
 invariant-loop c stream n kept₀ reader₀ at₀ turns₀ kept reader at turns = Unit {0}
 
-abbrev decreases-loop : tie.decreases-loop
+abbrev decreases-loop : tie.decreases-loop-turns
 decreases-loop c stream n kept₀ reader₀ at₀ turns₀ kept reader at turns = turns
 
 pub kiss_import_spec : {M : Type 1} → statement M

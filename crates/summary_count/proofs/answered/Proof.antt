@@ -5,24 +5,24 @@ use borrow.Author.Rules.{rules}
 use Rattle.summary_count.proofs.answered.Statement.{statement}
 use Rattle.summary_count.proofs.answered.Tie as tie
 
-returns : tie.Need-returns
+returns : tie.Need-returns-in-Accepted
 returns c =
-    let p8 = c.before.before.before.before.before.before.before.before in
-    let p15 = p8.before.before.before.before.before.before.before in
-    let p18 = p15.before.before.before in
-    let p26 = p18.before.before.before.before.before.before.before.before in
+    let p8 = c in
+    let p15 = p8 in
+    let p18 = p15 in
+    let p26 = p18 in
     frame-accepted p26.args.octets.now p26.args.lengths.now
     (ledger p26.args.counts.now p26.args.keys.now p26.args.many.now p26.args.last.now)
-    p18.answer.given.1 p15.frame.ensures p8.all.ensures
+    p18.answer-1.given.1 p15.frame.ensures p8.all.ensures
 
-returns-2 : tie.Need-returns-2
+returns-2 : tie.Need-returns-in-Refused
 returns-2 c =
-    let p2 = c.before.before in
-    let p5 = p2.before.before.before in
-    let p13 = p5.before.before.before.before.before.before.before.before in
+    let p2 = c in
+    let p5 = p2 in
+    let p13 = p5 in
     frame_refused p13.args.octets.now p13.args.lengths.now
     (ledger p13.args.counts.now p13.args.keys.now p13.args.many.now p13.args.last.now)
-    p5.answer2.given.1 p2.refusal.ensures
+    p5.answer-in-Refused-1.given.1 p2.refusal.ensures
 
 pub answered_spec : {M : Type 1} → statement M
 answered_spec =

@@ -6,9 +6,9 @@ use Rattle.summary_run.proofs.count.Tie as tie
 
 returns : tie.Need-returns
 returns c =
-    let p2 = c.before.before in
-    let p14 = p2.before.before.before.before.before.before.before.before.before.before.before.before in
-    counted p14.turns.ensures p2.judge.ensures
+    let p2 = c in
+    let p14 = p2 in
+    counted p14.turns-stopped.ensures p2.judge.ensures
 
 pub count_spec : {M : Type 1} → statement M
 count_spec =

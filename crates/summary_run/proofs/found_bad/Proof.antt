@@ -3,15 +3,15 @@ use Rattle.summary_run.proofs.Turning.{is-bad, not_bad}
 use Rattle.summary_run.proofs.found_bad.Statement.{statement}
 use Rattle.summary_run.proofs.found_bad.Tie as tie
 
-returns : tie.Need-returns
+returns : tie.Need-returns-in-Bad
 returns c =
-    let p1 = c.before in
-    is-bad p1.args.pull c.match.keys1
+    let p1 = c in
+    is-bad p1.args.pull c.in-Bad.keys1
 
-returns-2 : tie.Need-returns-2
+returns-2 : tie.Need-returns-in-More
 returns-2 c =
-    let p1 = c.before in
-    not_bad p1.args.pull c.match.keys2
+    let p1 = c in
+    not_bad p1.args.pull c.in-More.keys2
 
 pub found_bad_spec : {M : Type 1} → statement M
 found_bad_spec =

@@ -7,9 +7,9 @@ use Rattle.summary_run.proofs.run.Tie as tie
 
 returns : tie.Need-returns
 returns c =
-    let p8 = c.before.before.before.before.before.before.before.before in
-    let p13 = p8.before.before.before.before.before in
-    ran p13.no-counts.ensures p8.count.ensures c.finish.ensures (to_z-of_z (search rules))
+    let p8 = c in
+    let p13 = p8 in
+    ran p13.no_counts-counts.ensures p8.count-stopped.ensures c.finish.ensures (to_z-of_z (search rules))
 
 pub run_spec : {M : Type 1} → statement M
 run_spec =

@@ -7,14 +7,14 @@ use Rattle.summary_run.proofs.turn.Tie as tie
 
 returns : tie.Need-returns
 returns c =
-    let p8 = c.before.before.before.before.before.before.before.before in
-    let p15 = p8.before.before.before.before.before.before.before in
-    let p27 = p15.before.before.before.before.before.before.before.before.before.before.before.before in
-    let p39 = p27.before.before.before.before.before.before.before.before.before.before.before.before in
-    let p44 = p39.before.before.before.before.before in
+    let p8 = c in
+    let p15 = p8 in
+    let p27 = p15 in
+    let p39 = p27 in
+    let p44 = p39 in
     turned p44.args.state p44.args.input.now p44.args.kept.now
     (ledger p44.args.counts.now p44.args.keys.now p44.args.many.now p44.args.last.now)
-    p27.pull.result p44.requires p27.pull.ensures p8.heed.ensures p15.found-bad.ensures
+    p27.pull-pulled.result p44.requires p27.pull-pulled.ensures p8.heed-going.ensures p15.found_bad-bad.ensures
 
 pub turn_spec : {M : Type 1} → statement M
 turn_spec =

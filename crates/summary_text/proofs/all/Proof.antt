@@ -7,13 +7,13 @@ use Rattle.summary_text.proofs.all.Tie as tie
 
 returns : tie.Need-returns
 returns c =
-    let d = c.before.before in
-    let e = d.before.before.before.before in
-    let f = e.before.before.before.before in
-    let g = f.before.before.before.before in
-    let a = g.before.before.before.before.before.before.args in
-    whole-said (form a.csv) a.counts.now a.keys.now a.many.now g.begin.ensures f.of-frames.ensures
-    e.of-packets.ensures d.of_others.ensures
+    let d = c in
+    let e = d in
+    let f = e in
+    let g = f in
+    let a = g.args in
+    whole-said (form a.csv) a.counts.now a.keys.now a.many.now g.begin-begun.ensures f.of_frames-frames.ensures
+    e.of_packets-packets.ensures d.of_others.ensures
 
 pub all_spec : {M : Type 1} → statement M
 all_spec =

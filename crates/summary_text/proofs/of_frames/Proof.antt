@@ -7,14 +7,14 @@ use Rattle.summary_text.proofs.of_frames.Tie as tie
 
 returns : tie.Need-returns
 returns c =
-    let d = c.before.before in
-    let e = d.before.before.before.before in
-    let f = e.before.before.before.before in
-    let g = f.before.before.before.before in
-    let h = g.before.before in
-    let a = h.before.before.before.before.before.before.args in
-    frames-said (form a.csv) a.counts.now h.before.before.before.of.ensures h.before.before.of2.ensures
-    h.before.of3.ensures h.of4.ensures g.frames.ensures f.refused.ensures e.channels.ensures d.over-all.ensures
+    let d = c in
+    let e = d in
+    let f = e in
+    let g = f in
+    let h = g in
+    let a = h.args in
+    frames-said (form a.csv) a.counts.now h.of-accepted.ensures h.of-refused.ensures
+    h.of-lost.ensures h.of-unknown.ensures g.frames-frames.ensures f.refused-refusals.ensures e.channels-channels.ensures d.over_all.ensures
 
 pub of_frames_spec : {M : Type 1} → statement M
 of_frames_spec =

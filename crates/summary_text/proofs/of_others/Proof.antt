@@ -7,14 +7,14 @@ use Rattle.summary_text.proofs.of_others.Tie as tie
 
 returns : tie.Need-returns
 returns c =
-    let d = c.before.before in
-    let e = d.before.before.before.before in
-    let f = e.before.before.before.before in
-    let g = f.before.before.before.before in
-    let h = g.before.before in
-    let a = h.before.before.before.before.args in
-    others-said (form a.csv) a.counts.now h.before.of.ensures h.of2.ensures g.apids.ensures f.images.ensures
-    e.other-lines.ensures d.bad.ensures
+    let d = c in
+    let e = d in
+    let f = e in
+    let g = f in
+    let h = g in
+    let a = h.args in
+    others-said (form a.csv) a.counts.now h.of-unplaced.ensures h.of-bad.ensures g.apids-apids.ensures f.images-images.ensures
+    e.other_lines-lines.ensures d.bad.ensures
 
 pub of_others_spec : {M : Type 1} → statement M
 of_others_spec =

@@ -7,14 +7,14 @@ use Rattle.summary_text.proofs.of_packets.Tie as tie
 
 returns : tie.Need-returns
 returns c =
-    let d = c.before.before in
-    let e = d.before.before.before.before in
-    let f = e.before.before.before.before in
-    let g = f.before.before.before.before in
-    let h = g.before.before in
-    let a = h.before.before.before.before.before.before.before.args in
-    packets-said (form a.csv) a.counts.now a.keys.now a.many.now h.before.before.of.ensures
-    h.before.of2.ensures h.of3.ensures g.packets.ensures f.listed.ensures e.others.ensures d.away.ensures
+    let d = c in
+    let e = d in
+    let f = e in
+    let g = f in
+    let h = g in
+    let a = h.args in
+    packets-said (form a.csv) a.counts.now a.keys.now a.many.now h.of-read.ensures
+    h.of-away.ensures h.of-unlisted.ensures g.packets-packets.ensures f.listed-listed.ensures e.others-others.ensures d.away.ensures
 
 pub of_packets_spec : {M : Type 1} → statement M
 of_packets_spec =

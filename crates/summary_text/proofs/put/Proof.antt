@@ -7,9 +7,9 @@ use Rattle.summary_text.proofs.put.Tie as tie
 
 returns : tie.Need-returns
 returns c =
-    let d = c.before.before in
-    let a = d.before.before.before.before.before.before.args in
-    shown-all (summary_of a.counts.now a.keys.now a.many.now) a.out.now a.skip d.all.ensures
+    let d = c in
+    let a = d.args in
+    shown-all (summary_of a.counts.now a.keys.now a.many.now) a.out.now a.skip d.all-end.ensures
 
 pub put_spec : {M : Type 1} → statement M
 put_spec = tie.close

@@ -8,62 +8,62 @@ use borrow.Author.Rules.{rules}
 use Rattle.table.proofs.against.Statement.{statement}
 use Rattle.table.proofs.against.Tie as tie
 
-returns : tie.Need-returns
+returns : tie.Need-returns-then-columns-column
 returns c =
-    let s = c.before.before.before.before.before.before in
+    let s = c in
     let a = s.args in
-    no_number a.head.now a.columns a.row.now a.packet.now a.arrival s.requires.1 c.before.wide.ensures c.if1.true
+    no_number a.head.now a.columns a.row.now a.packet.now a.arrival s.requires.1 c.wide-column.ensures c.if-columns-column.true
 
-mul-part : tie.Need-overflow-mul-part
-mul-part c = omega (arith, c.before.before.shared-slice-known4.given 4)
+mul-part : tie.Need-overflow_mul-column
+mul-part c = omega (arith, c.shared_slice_known-4-1.given 4)
 
-add-part : tie.Need-overflow-add-part
-add-part c = omega (arith, c.before.before.shared-slice-known4.given 4)
+add-part : tie.Need-overflow_add-column
+add-part c = omega (arith, c.shared_slice_known-4-1.given 4)
 
-returns-2 : tie.Need-returns-2
+returns-2 : tie.Need-returns-then-c-lt2
 returns-2 c =
-    let w = c.before.before.before in
-    let s = w.before.before.before.before.before in
+    let w = c in
+    let s = w in
     let a = s.args in
-    no_octets a.head.now a.columns a.row.now a.packet.now a.arrival s.requires.1 w.wide.ensures
-    c.before.part.ensures c.if2.true
+    no_octets a.head.now a.columns a.row.now a.packet.now a.arrival s.requires.1 w.wide-column.ensures
+    c.part-c.ensures c.if-c-lt2.true
 
 value_lent : tie.Need-stands-requires
 value_lent c κs =
-    let s = c.before.before.before.before.before.before.before.before.before.before.before in
-    ap length c.part2.ensures ∙ length_part s.args.row.now 9 8 (omega (arith, s.requires.0))
+    let s = c in
+    ap length c.part.ensures ∙ length_part s.args.row.now 9 8 (omega (arith, s.requires.0))
 
-returns-3 : tie.Need-returns-3
+returns-3 : tie.Need-returns-then-not-stands
 returns-3 c =
-    let p = c.before.before.before.before.before.before in
-    let w = p.before.before in
-    let s = w.before.before.before.before.before in
+    let p = c in
+    let w = p in
+    let s = w in
     let a = s.args in
-    not_there a.head.now a.columns a.row.now a.packet.now a.arrival s.requires.1 w.wide.ensures
-    p.part.ensures p.before.if1.false c.before.before.before.before.before.if2.false
-    c.before.before.part2.ensures c.before.stands.ensures c.if3.true
+    not_there a.head.now a.columns a.row.now a.packet.now a.arrival s.requires.1 w.wide-column.ensures
+    p.part-c.ensures p.if-columns-column.false c.if-c-lt2.false
+    c.part.ensures c.stands.ensures c.if-not-stands.true
 
-returns-4 : tie.Need-returns-4
+returns-4 : tie.Need-returns-then-four_at-arrival
 returns-4 c =
-    let t = c.before.before in
-    let p = t.before.before.before.before.before.before in
-    let w = p.before.before in
-    let s = w.before.before.before.before.before in
+    let t = c in
+    let p = t in
+    let w = p in
+    let s = w in
     let a = s.args in
-    too_early_lem a.head.now a.columns a.row.now a.packet.now a.arrival s.requires.1 w.wide.ensures
-    p.part.ensures p.before.if1.false t.before.before.before.before.before.if2.false
-    t.before.before.part2.ensures t.before.stands.ensures t.if3.false c.before.four-at.ensures c.if4.true
+    too_early_lem a.head.now a.columns a.row.now a.packet.now a.arrival s.requires.1 w.wide-column.ensures
+    p.part-c.ensures p.if-columns-column.false t.if-c-lt2.false
+    t.part.ensures t.stands.ensures t.if-not-stands.false c.four_at.ensures c.if-four_at-arrival.true
 
-returns-5 : tie.Need-returns-5
+returns-5 : tie.Need-returns
 returns-5 c =
-    let t = c.before.before in
-    let p = t.before.before.before.before.before.before in
-    let w = p.before.before in
-    let s = w.before.before.before.before.before in
+    let t = c in
+    let p = t in
+    let w = p in
+    let s = w in
     let a = s.args in
-    nothing a.head.now a.columns a.row.now a.packet.now a.arrival s.requires.1 w.wide.ensures
-    p.part.ensures p.before.if1.false t.before.before.before.before.before.if2.false
-    t.before.before.part2.ensures t.before.stands.ensures t.if3.false c.before.four-at.ensures c.if4.false
+    nothing a.head.now a.columns a.row.now a.packet.now a.arrival s.requires.1 w.wide-column.ensures
+    p.part-c.ensures p.if-columns-column.false t.if-c-lt2.false
+    t.part.ensures t.stands.ensures t.if-not-stands.false c.four_at.ensures c.if-four_at-arrival.false
 
 pub against_spec : {M : Type 1} → statement M
 against_spec =

@@ -5,17 +5,17 @@ use borrow.Author.Rules.{rules}
 use Rattle.table.proofs.stands.Statement.{statement}
 use Rattle.table.proofs.stands.Tie as tie
 
-returns : tie.Need-returns
+returns : tie.Need-returns-then-packet-at
 returns c = absent _ _ _ (omega arith)
 
-returns-2 : tie.Need-returns-2
+returns-2 : tie.Need-returns-then-n-gt8
 returns-2 c = too_wide _ _ _ (omega arith) (omega arith) (omega arith)
 
-returns-3 : tie.Need-returns-3
+returns-3 : tie.Need-returns
 returns-3 c =
-    let p = c.before.before.before in
-    let w = p.before.before.before.before.before in
-    comparing _ _ w.before.wide.ensures w.wide2.ensures (omega arith) (omega arith) p.before.part.ensures p.put.ensures
+    let p = c in
+    let w = p in
+    comparing _ _ w.wide-at.ensures w.wide-n.ensures (omega arith) (omega arith) p.part.ensures p.put.ensures
     c.same.ensures
 
 pub stands_spec : {M : Type 1} → statement M

@@ -5,15 +5,15 @@ use Rattle.telling.specs.Counts.{counted}
 use Rattle.telling.proofs.count.Statement.{statement}
 use Rattle.telling.proofs.count.Tie as tie
 
-returns : tie.Need-returns
+returns : tie.Need-returns-then-n-counts
 unfolding counted
 returns c =
-    let c4 = c.before.before.before.before in
-    ap (λ (x : ℕ). set c4.args.counts.now c4.args.number x) c.wrapping-add-u64.ensures
+    let c4 = c in
+    ap (λ (x : ℕ). set c4.args.counts.now c4.args.number x) c.wrapping_add_u64.ensures
 
-returns-2 : tie.Need-returns-2
+returns-2 : tie.Need-returns-else-n-counts
 unfolding counted
-returns-2 c = sym (set_out _ _ _ c.if1.false)
+returns-2 c = sym (set_out _ _ _ c.if-n-counts.false)
 
 pub count_spec : {M : Type 1} → statement M
 count_spec =

@@ -5,31 +5,31 @@ use Rattle.telling.proofs.Numbers.{any_here, none_here, none_left}
 use Rattle.telling.proofs.next.Statement.{statement}
 use Rattle.telling.proofs.next.Tie as tie
 
-abbrev invariant-loop : tie.invariant-loop
+abbrev invariant-loop : tie.invariant-loop-i
 invariant-loop counts from i₀ i = next_of counts from ≡ next_of counts i
 
-abbrev decreases-loop : tie.decreases-loop
+abbrev decreases-loop : tie.decreases-loop-i
 decreases-loop counts from i₀ i = length counts - i
 
-loop-holds : tie.Need-loop-init invariant-loop decreases-loop
+loop-holds : tie.Need-loop-i-init invariant-loop decreases-loop
 loop-holds c = refl
 
-returns : tie.Need-returns invariant-loop decreases-loop
+returns : tie.Need-returns-then-counts-i-ne0 invariant-loop decreases-loop
 returns c =
-    let l = c.before.before.before.loop in
-    let a = c.before.before.before.before.args in
-    any_here a.counts.now a.from l.i l.invariant (search rules) c.if1.true
+    let l = c.loop-i in
+    let a = c.args in
+    any_here a.counts.now a.from l.i l.invariant (search rules) c.if-counts-i-ne0.true
 
-loop-again : tie.Need-loop-preserved invariant-loop decreases-loop
+loop-again : tie.Need-loop-i-preserved invariant-loop decreases-loop
 loop-again c =
-    let l = c.before.before.before.loop in
-    let a = c.before.before.before.before.args in
-    none_here a.counts.now a.from l.i l.invariant (search rules) (omega (arith, c.if1.false))
+    let l = c.loop-i in
+    let a = c.args in
+    none_here a.counts.now a.from l.i l.invariant (search rules) (omega (arith, c.if-counts-i-ne0.false))
 
-returns-2 : tie.Need-returns-2 invariant-loop decreases-loop
+returns-2 : tie.Need-returns invariant-loop decreases-loop
 returns-2 c =
-    let l = c.before.loop in
-    let a = c.before.before.args in
+    let l = c.loop-i in
+    let a = c.args in
     none_left a.counts.now a.from l.i l.invariant (search rules)
 
 pub next_spec : {M : Type 1} → statement M

@@ -5,11 +5,11 @@ use Rattle.transmit_recording.specs.Recording.{arrivals_of}
 use Rattle.transmit_recording.proofs.arrives.Statement.{statement}
 use Rattle.transmit_recording.proofs.arrives.Tie as tie
 
-returns : tie.Need-returns
+returns : tie.Need-returns-then-n-lt-LOST
 unfolding arrivals_of
 returns c = search (answers, tests)
 
-returns-2 : tie.Need-returns-2
+returns-2 : tie.Need-returns
 unfolding arrivals_of
 returns-2 c = search (answers, tests)
 

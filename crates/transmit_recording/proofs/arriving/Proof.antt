@@ -5,22 +5,22 @@ use Rattle.transmit_recording.proofs.Losing.{Arrived, at_most_1, none_yet, one_o
 use Rattle.transmit_recording.proofs.arriving.Statement.{statement}
 use Rattle.transmit_recording.proofs.arriving.Tie as tie
 
-abbrev invariant-loop : tie.invariant-loop
+abbrev invariant-loop : tie.invariant-loop-i
 invariant-loop frames n₀ i₀ n i = Arrived frames n i
 
-abbrev decreases-loop : tie.decreases-loop
+abbrev decreases-loop : tie.decreases-loop-i
 decreases-loop frames n₀ i₀ n i = length frames - i
 
-add-n : tie.Need-overflow-add-n invariant-loop decreases-loop
+add-n : tie.Need-overflow_add-n invariant-loop decreases-loop
 add-n c =
-    let k = c.before.before.before.loop in
-    omega (arith, k.invariant.few, c.arrives.ensures, at_most_1 (at c.before.before.before.before.before.args.frames.now k.i))
+    let k = c.loop-i in
+    omega (arith, k.invariant.few, c.arrives-n.ensures, at_most_1 (at c.args.frames.now k.i))
 
-loop-again : tie.Need-loop-preserved invariant-loop decreases-loop
-loop-again c = one_on _ _ _ c.before.before.before.loop.invariant c.before.before.loop-test.true c.arrives.ensures
+loop-again : tie.Need-loop-i-preserved invariant-loop decreases-loop
+loop-again c = one_on _ _ _ c.loop-i.invariant c.loop-i-test.true c.arrives-n.ensures
 
 returns : tie.Need-returns invariant-loop decreases-loop
-returns c = all-arrived _ _ _ c.before.loop.invariant c.loop-test.false
+returns c = all-arrived _ _ _ c.loop-i.invariant c.loop-i-test.false
 
 pub arriving_spec : {M : Type 1} → statement M
 arriving_spec =

@@ -5,7 +5,7 @@ use Rattle.transmit_recording.proofs.head.Statement.{statement}
 use Rattle.transmit_recording.proofs.head.Tie as tie
 
 returns : tie.Need-returns
-returns c = head_is _ _ c.four-octets.result c.before.arriving.result c.before.arriving.ensures c.four-octets.ensures
+returns c = head_is _ _ c.four_octets-count.result c.arriving.result c.arriving.ensures c.four_octets-count.ensures
 
 pub head_spec : {M : Type 1} → statement M
 head_spec =

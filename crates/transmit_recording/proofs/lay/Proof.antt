@@ -4,36 +4,36 @@ use Rattle.transmit_recording.proofs.Laying.{lays_nothing, lays_all}
 use Rattle.transmit_recording.proofs.lay.Statement.{statement}
 use Rattle.transmit_recording.proofs.lay.Tie as tie
 
-returns : tie.Need-returns
+returns : tie.Need-returns-then-out-lt9
 returns c =
-    let a = c.before.before.before.before.args in
-    lays_nothing a.t a.made.now a.frames.now a.out.now (omega (arith, c.if1.true))
+    let a = c.args in
+    lays_nothing a.t a.made.now a.frames.now a.out.now (omega (arith, c.if-out-lt9.true))
 
-returns-2 : tie.Need-returns-2
+returns-2 : tie.Need-returns-then-room-made
 returns-2 c =
-    let a = c.before.before.before.before.before.args in
-    lays_nothing a.t a.made.now a.frames.now a.out.now (omega (arith, c.if2.true, c.before.if1.false))
+    let a = c.args in
+    lays_nothing a.t a.made.now a.frames.now a.out.now (omega (arith, c.if-room-made.true, c.if-out-lt9.false))
 
-returns-3 : tie.Need-returns-3
+returns-3 : tie.Need-returns-then-room-made-2
 returns-3 c =
-    let c6 = c.before.before.before.before.before.before in
+    let c6 = c in
     let a = c6.args in
     lays_nothing a.t a.made.now a.frames.now a.out.now
-    (omega (arith, c.if3.true, c.before.if2.false, c.before.before.if1.false))
+    (omega (arith, c.if-room-made-2.true, c.if-room-made.false, c.if-out-lt9.false))
 
-lay-frames-requires : tie.Need-lay-frames-requires
+lay-frames-requires : tie.Need-lay_frames-requires
 lay-frames-requires c κs =
-    let i = c.before.before.before.before.before.before.before in
-    omega (arith, i.if3.false, i.before.if2.false, i.before.before.if1.false, c.before.before.before.put.auto.0)
+    let i = c in
+    omega (arith, i.if-room-made-2.false, i.if-room-made.false, i.if-out-lt9.false, c.put.auto.0)
 
-returns-4 : tie.Need-returns-4
+returns-4 : tie.Need-returns
 returns-4 c =
-    let p = c.before.before.before.before.before.before in
-    let i = p.before.before.before.before in
-    let a = i.before.before.before.before.before.before.args in
+    let p = c in
+    let i = p in
+    let a = i.args in
     lays_all a.t a.made.now a.frames.now a.out.now
-    (omega (arith, i.if3.false, i.before.if2.false, i.before.before.if1.false))
-    p.before.before.before.head.ensures p.put.ensures c.before.before.lay-frames.ensures
+    (omega (arith, i.if-room-made-2.false, i.if-room-made.false, i.if-out-lt9.false))
+    p.head-first.ensures p.put.ensures c.lay_frames.ensures
 
 pub lay_spec : {M : Type 1} → statement M
 lay_spec =

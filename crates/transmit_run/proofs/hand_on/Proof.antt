@@ -6,9 +6,9 @@ use Rattle.transmit_run.proofs.hand_on.Tie as tie
 
 emit-requires : tie.Need-emit-requires
 emit-requires c κs =
-    let f = c.before.before.before.before.before.before.before.before.before in
+    let f = c in
     let a = f.args in
-    laid-held a.t a.made.now a.frames.now a.out.now f.requires c.before.before.before.lay.ensures
+    laid-held a.t a.made.now a.frames.now a.out.now f.requires c.lay-size.ensures
 
 returns : tie.Need-returns
 returns c = c.emit.ensures

@@ -5,35 +5,35 @@ use Rattle.transmit_run.proofs.Ending.{ends-faulty, ends-whole}
 use Rattle.transmit_run.proofs.lines.Statement.{statement}
 use Rattle.transmit_run.proofs.lines.Tie as tie
 
-returns : tie.Need-returns
+returns : tie.Need-returns-then-faulty
 returns c =
-    let f = c.before.before.before in
-    let o = f.before.before.before.before.before.before.before.before.before.before.before.before in
-    ends-faulty o.over.ensures c.none.result f.faulty.ensures c.before.before.if1.true c.none.ensures
+    let f = c in
+    let o = f in
+    ends-faulty o.over-ran.ensures c.none.result f.faulty.ensures c.if-faulty.true c.none.ensures
 
-hand-on-requires : tie.Need-hand-on-requires
+hand-on-requires : tie.Need-hand_on-written-requires
 hand-on-requires c κs =
-    let c14 = c.before.before.before.before.before.before.before.before.before.before.before.before.before.before in
-    let o = c14.before.before.before.before.before.before in
-    let k = o.over.auto in
+    let c14 = c in
+    let o = c14 in
+    let k = o.over-ran.auto in
     omega (
       arith,
-      ap length c.before.front.ensures,
-      take_short o.over.result.place.state.made.count
-          o.over.new.1.1.1.1.1.0,
+      ap length c.front.ensures,
+      take_short o.over-ran.result.place.state.made.count
+          o.over-ran.new.1.1.1.1.1.0,
       k.1.1.1.1.0,
       k.1.1.1.1.1.0,
-      o.before.before.before.before.before.before.before.before.before.before.before.before.before.before.requires,
+      o.requires,
     )
 
-returns-2 : tie.Need-returns-2
+returns-2 : tie.Need-returns
 returns-2 c =
-    let i = c.before.before.before.before.before.before.before.before.before.before in
-    let h = c.before.before in
-    let f = i.before in
-    let o = f.before.before.before.before.before.before.before.before.before.before.before.before in
-    ends-whole o.over.ensures h.hand_on.result f.faulty.ensures i.if1.false h.before.before.front.ensures
-    h.hand_on.ensures
+    let i = c in
+    let h = c in
+    let f = i in
+    let o = f in
+    ends-whole o.over-ran.ensures h.hand_on-written.result f.faulty.ensures i.if-faulty.false h.front.ensures
+    h.hand_on-written.ensures
 
 pub lines_spec : {M : Type 1} → statement M
 lines_spec =

@@ -5,11 +5,11 @@ use Rattle.transmit_run.proofs.made_of.Tie as tie
 
 returns : tie.Need-returns
 returns c =
-    let p7 = c.before.before.before.before.before.before.before in
+    let p7 = c in
     record {
       lends = _;
       ended = _;
-      ends = p7.lines.ensures;
+      ends = p7.lines-ended.ensures;
       says = to_z-of_z (search rules) ∙ c.status.ensures;
     }
 

@@ -4,23 +4,23 @@ use Rattle.transmit_run.proofs.Turning.{linked, used}
 use Rattle.transmit_run.proofs.turn.Statement.{statement}
 use Rattle.transmit_run.proofs.turn.Tie as tie
 
-returns : tie.Need-returns
+returns : tie.Need-returns-then-same
 returns c =
-    let k = c.before.before.before in
-    linked _ _ _ _ _ k.before.before.before.part.ensures k.before.before.word.ensures k.same.ensures
-    c.before.before.if1.true
-    c.before.wrapping-add-usize.ensures c.rest.ensures
+    let k = c in
+    linked _ _ _ _ _ k.part-line.ensures k.word.ensures k.same.ensures
+    c.if-same.true
+    c.wrapping_add_usize.ensures c.rest.ensures
 
-returns-2 : tie.Need-returns-2
+returns-2 : tie.Need-returns
 returns-2 c =
-    let c5 = c.before.before.before.before.before in
-    let c7 = c5.before.before in
-    let s = c7.before.before.before.before.before.before.before.before.before.before.before.before.before in
-    let k = s.before.before.before.before.before.before.before.before.before in
-    used _ _ _ _ _ k.before.before.before.part.ensures k.before.before.word.ensures k.same.ensures
-    s.before.before.before.before.before.before.before.before.if1.false s.step.ensures
-    c7.part2.ensures c5.lose.ensures c.before.before.less.ensures c.before.wrapping-add-usize2.ensures
-    c.less2.ensures
+    let c5 = c in
+    let c7 = c5 in
+    let s = c7 in
+    let k = s in
+    used _ _ _ _ _ k.part-line.ensures k.word.ensures k.same.ensures
+    s.if-same.false s.step-stepped.ensures
+    c7.part.ensures c5.lose.ensures c.less-more.ensures c.wrapping_add_usize-2.ensures
+    c.less.ensures
 
 pub turn_spec : {M : Type 1} → statement M
 turn_spec =

@@ -4,32 +4,32 @@ use Rattle.transmit_settings.proofs.Setting.{no_address, source-set, destination
 use Rattle.transmit_settings.proofs.station.Statement.{statement}
 use Rattle.transmit_settings.proofs.station.Tie as tie
 
-returns : tie.Need-returns
+returns : tie.Need-returns-then-callsign-n
 returns c =
-    let k = c.before.before in
-    no_address _ k.before.before.word.ensures k.before.rest.ensures k.number.ensures _ _ c.before.if1.true
+    let k = c in
+    no_address _ k.word-callsign.ensures k.rest.ensures k.number-n.ensures _ _ c.if-callsign-n.true
     c.stopped.ensures
 
-cast-address : tie.Need-overflow-cast-address
+cast-address : tie.Need-overflow_cast-n
 cast-address c =
-    let c3 = c.before.before.before in
-    omega (arith, ssid-fits (ltb 6 (length c3.word.result.now)) c.before.number.result c.if1.false)
+    let c3 = c in
+    omega (arith, ssid-fits (ltb 6 (length c3.word-callsign.result.now)) c.number-n.result c.if-callsign-n.false)
 
-returns-2 : tie.Need-returns-2
+returns-2 : tie.Need-returns-then-same
 returns-2 c =
-    let d = c.before.before in
-    let k = d.before.before.before.before.before in
-    source-set _ k.before.before.word.ensures k.before.rest.ensures k.number.ensures _ _
-    d.before.before.before.before.if1.false
-    d.before.before.before.address.ensures d.same.ensures c.before.if2.true c.going.ensures
+    let d = c in
+    let k = d in
+    source-set _ k.word-callsign.ensures k.rest.ensures k.number-n.ensures _ _
+    d.if-callsign-n.false
+    d.address-given.ensures d.same.ensures c.if-same.true c.going.ensures
 
-returns-3 : tie.Need-returns-3
+returns-3 : tie.Need-returns
 returns-3 c =
-    let d = c.before.before in
-    let k = d.before.before.before.before.before in
-    destination-set _ k.before.before.word.ensures k.before.rest.ensures k.number.ensures _ _
-    d.before.before.before.before.if1.false
-    d.before.before.before.address.ensures d.same.ensures c.before.if2.false c.going2.ensures
+    let d = c in
+    let k = d in
+    destination-set _ k.word-callsign.ensures k.rest.ensures k.number-n.ensures _ _
+    d.if-callsign-n.false
+    d.address-given.ensures d.same.ensures c.if-same.false c.going-2.ensures
 
 pub station_spec : {M : Type 1} → statement M
 station_spec =

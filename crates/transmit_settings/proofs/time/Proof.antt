@@ -6,7 +6,7 @@ use Rattle.transmit_settings.proofs.time.Tie as tie
 
 returns : tie.Need-returns
 returns c =
-    let h = c.before.before.before.hex in
+    let h = c.hex-n in
     (time-set _ _ _ _ _ h.ensures.0 (search rules) c.up_to_lem.ensures, h.ensures.1)
 
 pub time_spec : {M : Type 1} → statement M

@@ -6,11 +6,11 @@ use Rattle.transmit_settings.specs.Setting.{up_to}
 use Rattle.transmit_settings.proofs.up_to.Statement.{statement}
 use Rattle.transmit_settings.proofs.up_to.Tie as tie
 
-returns : tie.Need-returns
+returns : tie.Need-returns-then-most-n
 unfolding up_to
 returns c = c.stopped.ensures ∙ search (answers, tests)
 
-returns-2 : tie.Need-returns-2
+returns-2 : tie.Need-returns
 unfolding up_to
 returns-2 c = c.going.ensures ∙ search (answers, tests)
 

@@ -4,17 +4,17 @@ use Rattle.transmit_steps.proofs.Making.{emptied_on, not_emptied}
 use Rattle.transmit_steps.proofs.empty.Statement.{statement}
 use Rattle.transmit_steps.proofs.empty.Tie as tie
 
-returns : tie.Need-returns
+returns : tie.Need-returns-in-Sent
 returns c =
-    let n = c.before.before.before.before in
-    let m = n.before.before.before.before.before.before.before in
-    emptied_on _ _ _ _ m.before.before.before.count.ensures m.before.before.part.ensures m.empty.ensures
-    (search rules) c.before.sent.ensures c.going.ensures n.enter.ensures
+    let n = c in
+    let m = n in
+    emptied_on _ _ _ _ m.count.ensures m.part.ensures m.empty.ensures
+    (search rules) c.sent.ensures c.going.ensures n.enter.ensures
 
-returns-2 : tie.Need-returns-2
+returns-2 : tie.Need-returns-in-Refused
 returns-2 c =
-    let m = c.before.before.before.before.before.before in
-    not_emptied _ _ _ _ m.before.before.before.count.ensures m.before.before.part.ensures m.empty.ensures
+    let m = c in
+    not_emptied _ _ _ _ m.count.ensures m.part.ensures m.empty.ensures
     (search rules) c.stopped.ensures
 
 pub empty_spec : {M : Type 1} → statement M

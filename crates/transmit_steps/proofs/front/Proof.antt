@@ -6,5 +6,5 @@ use Rattle.transmit_steps.proofs.front.Tie as tie
 
 pub front_spec : {M : Type 1} → statement M
 front_spec =
-    tie.close (tie.spec (λ c. all_of c.before.args.list.now c.before.args.n (search rules))
-    (λ c. first_of c.before.before.args.list.now c.before.before.args.n (search rules)) (λ c. search rules))
+    tie.close (tie.spec (λ c. all_of c.args.list.now c.args.n (search rules))
+    (λ c. first_of c.args.list.now c.args.n (search rules)) (λ c. search rules))

@@ -4,46 +4,46 @@ use Rattle.transmit_steps.proofs.Making.{no_more, made-sent, made-empty, made-fr
 use Rattle.transmit_steps.proofs.make.Statement.{statement}
 use Rattle.transmit_steps.proofs.make.Tie as tie
 
-returns : tie.Need-returns
-returns c = no_more _ _ _ _ _ _ _ c.before.if1.true c.stopped.ensures
+returns : tie.Need-returns-then-frames-made
+returns c = no_more _ _ _ _ _ _ _ c.if-frames-made.true c.stopped.ensures
 
-returns-2 : tie.Need-returns-2
+returns-2 : tie.Need-returns-then-same
 returns-2 c =
-    let c4 = c.before.before.before.before in
-    let k = c4.before.before.before.before in
-    made-sent _ _ _ _ _ _ _ k.before.before.before.if1.false k.before.same.ensures k.if2.true c4.send-all.ensures
+    let c4 = c in
+    let k = c4 in
+    made-sent _ _ _ _ _ _ _ k.if-frames-made.false k.same.ensures k.if-same.true c4.send_all.ensures
 
-returns-3 : tie.Need-returns-3
+returns-3 : tie.Need-returns-then-same-2
 returns-3 c =
-    let c4 = c.before.before.before.before in
-    let k = c4.before.before.before.before in
-    made-empty _ _ _ _ _ _ _ k.before.before.before.before.before.before.if1.false
-    k.before.before.before.before.same.ensures k.before.before.before.if2.false k.before.same2.ensures
-    k.if3.true
+    let c4 = c in
+    let k = c4 in
+    made-empty _ _ _ _ _ _ _ k.if-frames-made.false
+    k.same.ensures k.if-same.false k.same-2.ensures
+    k.if-same-2.true
     c4.empty.ensures
 
-returns-4 : tie.Need-returns-4
+returns-4 : tie.Need-returns-then-same-3
 returns-4 c =
-    let c4 = c.before.before.before.before in
-    let k = c4.before.before.before in
-    made-frame _ _ _ _ _ _ _ k.before.before.before.before.before.before.before.before.before.if1.false
-    k.before.before.before.before.before.before.before.same.ensures
-    k.before.before.before.before.before.before.if2.false k.before.before.before.before.same2.ensures
-    k.before.before.before.if3.false
-    k.before.before.before.before.before.before.before.before.before.before.before.before.word.ensures
-    k.before.before.before.before.before.before.before.before.before.before.before.rest.ensures
-    k.before.same3.ensures k.if4.true c4.frame.ensures
+    let c4 = c in
+    let k = c4 in
+    made-frame _ _ _ _ _ _ _ k.if-frames-made.false
+    k.same.ensures
+    k.if-same.false k.same-2.ensures
+    k.if-same-2.false
+    k.word-word.ensures
+    k.rest-value.ensures
+    k.same-3.ensures k.if-same-3.true c4.frame.ensures
 
-returns-5 : tie.Need-returns-5
+returns-5 : tie.Need-returns
 returns-5 c =
-    let k = c.before.before.before.before in
-    made-set _ _ _ _ _ _ _ k.before.before.before.before.before.before.before.before.before.if1.false
-    k.before.before.before.before.before.before.before.same.ensures
-    k.before.before.before.before.before.before.if2.false k.before.before.before.before.same2.ensures
-    k.before.before.before.if3.false
-    k.before.before.before.before.before.before.before.before.before.before.before.before.word.ensures
-    k.before.before.before.before.before.before.before.before.before.before.before.rest.ensures
-    k.before.same3.ensures k.if4.false c.before.before.set.ensures
+    let k = c in
+    made-set _ _ _ _ _ _ _ k.if-frames-made.false
+    k.same.ensures
+    k.if-same.false k.same-2.ensures
+    k.if-same-2.false
+    k.word-word.ensures
+    k.rest-value.ensures
+    k.same-3.ensures k.if-same-3.false c.set.ensures
 
 pub make_spec : {M : Type 1} → statement M
 make_spec =

@@ -4,18 +4,18 @@ use Rattle.transmit_steps.proofs.Steps.{sent-on, refused-on}
 use Rattle.transmit_steps.proofs.send.Statement.{statement}
 use Rattle.transmit_steps.proofs.send.Tie as tie
 
-returns : tie.Need-returns
+returns : tie.Need-returns-in-Sent
 returns c =
-    let m = c.before.before.before.before.before.before.before.before.before in
-    let k = m.before.before.before in
-    sent-on _ _ _ _ _ _ k.before.before.before.count.ensures k.before.before.part.ensures k.before.part2.ensures
-    k.front.ensures m.send.result m.send.ensures (search rules) c.before.sent.ensures c.going.ensures
+    let m = c in
+    let k = m in
+    sent-on _ _ _ _ _ _ k.count.ensures k.part.ensures k.part-2.ensures
+    k.front.ensures m.send.result m.send.ensures (search rules) c.sent-next.ensures c.going.ensures
 
-returns-2 : tie.Need-returns-2
+returns-2 : tie.Need-returns-in-Refused
 returns-2 c =
-    let m = c.before.before.before.before.before.before.before.before in
-    let k = m.before.before.before in
-    refused-on _ _ _ _ _ _ k.before.before.before.count.ensures k.before.before.part.ensures k.before.part2.ensures
+    let m = c in
+    let k = m in
+    refused-on _ _ _ _ _ _ k.count.ensures k.part.ensures k.part-2.ensures
     k.front.ensures m.send.result m.send.ensures (search rules) c.stopped.ensures
 
 pub send_spec : {M : Type 1} → statement M

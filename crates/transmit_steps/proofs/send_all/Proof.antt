@@ -4,14 +4,14 @@ use Rattle.transmit_steps.proofs.Steps.{no_frames, all-sent}
 use Rattle.transmit_steps.proofs.send_all.Statement.{statement}
 use Rattle.transmit_steps.proofs.send_all.Tie as tie
 
-returns : tie.Need-returns
-returns c = no_frames _ _ _ _ _ _ c.before.if1.true c.stopped.ensures
+returns : tie.Need-returns-then-frames-first
+returns c = no_frames _ _ _ _ _ _ c.if-frames-first.true c.stopped.ensures
 
-returns-2 : tie.Need-returns-2
+returns-2 : tie.Need-returns
 returns-2 c =
-    let c4 = c.before.before.before.before in
-    let c7 = c4.before.before.before in
-    all-sent _ _ _ _ _ _ c7.if1.false c4.send.ensures
+    let c4 = c in
+    let c7 = c4 in
+    all-sent _ _ _ _ _ _ c7.if-frames-first.false c4.send.ensures
 
 pub send_all_spec : {M : Type 1} → statement M
 send_all_spec =

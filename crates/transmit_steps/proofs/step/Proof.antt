@@ -4,33 +4,33 @@ use Rattle.transmit_steps.proofs.Making.{over, step-packet, step-full, step-made
 use Rattle.transmit_steps.proofs.step.Statement.{statement}
 use Rattle.transmit_steps.proofs.step.Tie as tie
 
-returns : tie.Need-returns
-returns c = over _ _ _ _ _ _ _ c.before.before.passed_over.ensures c.before.if1.true c.going.ensures
+returns : tie.Need-returns-then-passed_over
+returns c = over _ _ _ _ _ _ _ c.passed_over.ensures c.if-passed_over.true c.going.ensures
 
-returns-2 : tie.Need-returns-2
+returns-2 : tie.Need-returns-then-same
 returns-2 c =
-    let c4 = c.before.before.before.before in
-    let c7 = c4.before.before.before in
-    let k = c7.before in
-    step-packet _ _ _ _ _ _ _ k.before.before.before.before.before.passed_over.ensures
-    k.before.before.before.before.if1.false k.before.before.before.word.ensures k.before.same.ensures
-    k.if2.true c7.rest.ensures c4.packet.ensures
+    let c4 = c in
+    let c7 = c4 in
+    let k = c7 in
+    step-packet _ _ _ _ _ _ _ k.passed_over.ensures
+    k.if-passed_over.false k.word.ensures k.same.ensures
+    k.if-same.true c7.rest.ensures c4.packet.ensures
 
-returns-3 : tie.Need-returns-3
+returns-3 : tie.Need-returns-then-made-from
 returns-3 c =
-    let k = c.before.before in
-    step-full _ _ _ _ _ _ _ k.before.before.before.before.before.passed_over.ensures k.before.before.before.before.if1.false
-    k.before.before.before.word.ensures k.before.same.ensures
-    k.if2.false c.before.if3.true c.stopped.ensures
+    let k = c in
+    step-full _ _ _ _ _ _ _ k.passed_over.ensures k.if-passed_over.false
+    k.word.ensures k.same.ensures
+    k.if-same.false c.if-made-from.true c.stopped.ensures
 
-returns-4 : tie.Need-returns-4
+returns-4 : tie.Need-returns
 returns-4 c =
-    let c6 = c.before.before.before.before.before.before in
-    let c12 = c6.before.before.before.before.before.before in
-    let k = c12.before in
-    step-made _ _ _ _ _ _ _ k.before.before.before.before.before.passed_over.ensures k.before.before.before.before.if1.false
-    k.before.before.before.word.ensures k.before.same.ensures
-    k.if2.false c12.if3.false c6.make.ensures
+    let c6 = c in
+    let c12 = c6 in
+    let k = c12 in
+    step-made _ _ _ _ _ _ _ k.passed_over.ensures k.if-passed_over.false
+    k.word.ensures k.same.ensures
+    k.if-same.false c12.if-made-from.false c6.make.ensures
 
 pub step_spec : {M : Type 1} → statement M
 step_spec =

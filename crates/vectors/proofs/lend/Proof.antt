@@ -5,13 +5,13 @@ use borrow.Author.Rules.{rules}
 use Rattle.vectors.proofs.lend.Statement.{statement}
 use Rattle.vectors.proofs.lend.Tie as tie
 
-octets-lent : tie.Need-slice-aggregate-run
+octets-lent : tie.Need-slice_bounds-run-end
 octets-lent c = sym (length-take-le _ _ (search rules))
 
-words-lent : tie.Need-slice-aggregate-run-2
+words-lent : tie.Need-slice_bounds-run-end-2
 words-lent c = sym (length-take-le _ _ (search rules))
 
-fours-lent : tie.Need-slice-aggregate-run-3
+fours-lent : tie.Need-slice_bounds-run-end-3
 fours-lent c = sym (length-take-le _ _ (search rules))
 
 pub lend_spec : {M : Type 1} → statement M

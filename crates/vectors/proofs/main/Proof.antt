@@ -5,10 +5,10 @@ use borrow.Author.Rules.{rules}
 use Rattle.vectors.proofs.main.Statement.{statement}
 use Rattle.vectors.proofs.main.Tie as tie
 
-abbrev invariant-loop : tie.invariant-loop
+abbrev invariant-loop : tie.invariant-loop-left
 invariant-loop s₀ head₀ left₀ s head left = 4 ≡ length head
 
-abbrev decreases-loop : tie.decreases-loop
+abbrev decreases-loop : tie.decreases-loop-left
 decreases-loop s₀ head₀ left₀ s head left = left
 
 pub main_spec : {M : Type 1} → statement M

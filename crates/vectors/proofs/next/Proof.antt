@@ -5,7 +5,7 @@ use borrow.Author.Rules.{rules}
 use Rattle.vectors.proofs.next.Statement.{statement}
 use Rattle.vectors.proofs.next.Tie as tie
 
-record-lent : tie.Need-slice-aggregate-read
+record-lent : tie.Need-slice_bounds-read-end
 record-lent c = sym (length-take-le _ _ (search rules))
 
 pub next_spec : {M : Type 1} → statement M

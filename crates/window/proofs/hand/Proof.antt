@@ -4,14 +4,14 @@ use borrow.Author.Rules.{rules}
 use Rattle.window.proofs.hand.Statement.{statement}
 use Rattle.window.proofs.hand.Tie as tie
 
-returns : tie.Need-returns
-returns c = hand-none _ _ _ c.part.ensures c.before.if1.true
+returns : tie.Need-returns-then-end-at
+returns c = hand-none _ _ _ c.part.ensures c.if-end-at.true
 
-returns-3 : tie.Need-returns-3
-returns-3 c = hand-rest _ _ _ c.before.before.if2.false
+returns-3 : tie.Need-returns-then-at-input
+returns-3 c = hand-rest _ _ _ c.if-end-input.false
 
-returns-4 : tie.Need-returns-4
-returns-4 c = hand-beyond _ _ _ c.part2.ensures c.before.if3.false
+returns-4 : tie.Need-returns
+returns-4 c = hand-beyond _ _ _ c.part-2.ensures c.if-at-input.false
 
 pub hand_spec : {M : Type 1} → statement M
 hand_spec =

@@ -11,19 +11,19 @@ use Rattle.window.proofs.read_some.Tie as tie
 
 returns : tie.Need-returns
 returns c =
-    let r = c.before.before.before.before.before.before.before in
-    let s = r.before.before.before.before.before in
+    let r = c in
+    let s = r in
     let a = s.args.from in
     let xs = s.args.input.now in
     let k = length xs - a in
-    let ys = r.read.new.1.0 in (
+    let ys = r.read-got.new.1.0 in (
       omega (
         arith,
         length-append (take a xs) (ys ++ post_of a k xs),
         length-append ys (post_of a k xs),
         length-take-le a xs
             s.requires,
-        c.before.before.count.ensures.0.0,
+        c.count-came.ensures.0.0,
       ),
       take_put a k xs ys s.requires,
     )

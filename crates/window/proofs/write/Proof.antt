@@ -6,7 +6,7 @@ use Rattle.window.proofs.write.Statement.{statement}
 use Rattle.window.proofs.write.Tie as tie
 
 returns : tie.Need-returns
-returns c = ap length c.before.before.hand.ensures
+returns c = ap length c.hand-octets.ensures
 
 pub write_spec : {M : Type 1} → statement M
 write_spec =

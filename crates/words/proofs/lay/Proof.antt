@@ -12,57 +12,57 @@ use Rattle.words.proofs.Pairing.{digit_at, many, octet-at, laid_on, all_laid}
 use Rattle.words.proofs.lay.Statement.{statement}
 use Rattle.words.proofs.lay.Tie as tie
 
-abbrev invariant-loop : tie.invariant-loop
+abbrev invariant-loop : tie.invariant-loop-i
 invariant-loop s n out₀ i₀ out i = (i ≤ n) × (length out ≡ length out₀) × (out ≡ paste out₀ 0 (octets_of s) i)
 
-abbrev decreases-loop : tie.decreases-loop
+abbrev decreases-loop : tie.decreases-loop-i
 decreases-loop s n out₀ i₀ out i = n - i
 
-loop-holds : tie.Need-loop-init invariant-loop decreases-loop
+loop-holds : tie.Need-loop-i-init invariant-loop decreases-loop
 loop-holds c =
-    let a = c.before.before.args in
+    let a = c.args in
     (search rules, search rules, paste-zero a.out.now 0 (octets_of a.s.now))
 
 -- two digits make an octet
-mul-out : tie.Need-overflow-mul-out invariant-loop decreases-loop
+mul-out : tie.Need-overflow_mul-out invariant-loop decreases-loop
 mul-out c =
-    let k = c.before.before.before in
-    let p = k.before.before.before in
-    let d : c.digit.result ≤ 15 = omega (arith, c.digit.ensures, digit_at p.args.s.now (2 * k.loop.i) p.requires.2 (search rules))
+    let k = c in
+    let p = k in
+    let d : c.digit.result ≤ 15 = omega (arith, c.digit.ensures, digit_at p.args.s.now (2 * k.loop-i.i) p.requires.2 (search rules))
     in
     omega arith
 
-add-out : tie.Need-overflow-add-out invariant-loop decreases-loop
+add-out : tie.Need-overflow_add-out invariant-loop decreases-loop
 add-out c =
-    let k = c.before.before.before.before.before in
-    let p = k.before.before.before in
+    let k = c in
+    let p = k in
     omega (
       arith,
-      c.before.before.digit.ensures,
-      c.digit2.ensures,
-      digit_at p.args.s.now (2 * k.loop.i) p.requires.2 (search rules),
-      digit_at p.args.s.now (2 * k.loop.i + 1) p.requires.2 (search rules),
+      c.digit.ensures,
+      c.digit-in-loop-i.ensures,
+      digit_at p.args.s.now (2 * k.loop-i.i) p.requires.2 (search rules),
+      digit_at p.args.s.now (2 * k.loop-i.i + 1) p.requires.2 (search rules),
     )
 
-loop-again : tie.Need-loop-preserved invariant-loop decreases-loop
+loop-again : tie.Need-loop-i-preserved invariant-loop decreases-loop
 loop-again c =
-    let k = c.before.before.before.before.before in
-    let p = k.before.before.before in
+    let k = c in
+    let p = k in
     let s = p.args.s.now in
-    let i = k.loop.i in
-    let v = c.before.before.digit.result * 16 + c.digit2.result in
-    let e : v ≡ digit_of (at s (2 * i)) * 16 + digit_of (at s (2 * i + 1)) = simp (c.before.before.digit.ensures, c.digit2.ensures) in (
+    let i = k.loop-i.i in
+    let v = c.digit.result * 16 + c.digit-in-loop-i.result in
+    let e : v ≡ digit_of (at s (2 * i)) * 16 + digit_of (at s (2 * i + 1)) = simp (c.digit.ensures, c.digit-in-loop-i.ensures) in (
       search rules,
       simp length-set (search rules),
-      ap (λ (x : List ℕ). set x i v) k.loop.invariant.2
+      ap (λ (x : List ℕ). set x i v) k.loop-i.invariant.2
           ∙ laid_on p.args.out.now (octets_of s) i v (e ∙ sym (octet-at i p.args.n s p.requires.0 (search rules))) (search rules)
           (omega (arith, many p.args.n s p.requires.0)),
     )
 
 returns : tie.Need-returns invariant-loop decreases-loop
 returns c =
-    let p = c.before.before.before.before in
-    c.before.loop.invariant.2 ∙ all_laid p.args.out.now p.args.s.now p.args.n c.before.loop.i p.requires.0 (search rules)
+    let p = c in
+    c.loop-i.invariant.2 ∙ all_laid p.args.out.now p.args.s.now p.args.n c.loop-i.i p.requires.0 (search rules)
 
 pub lay_spec : {M : Type 1} → statement M
 lay_spec =

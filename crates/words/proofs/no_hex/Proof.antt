@@ -7,20 +7,20 @@ use Rattle.words.proofs.Pairing.{Digits, one_more, another, no_other}
 use Rattle.words.proofs.no_hex.Statement.{statement}
 use Rattle.words.proofs.no_hex.Tie as tie
 
-abbrev invariant-loop : tie.invariant-loop
+abbrev invariant-loop : tie.invariant-loop-i
 invariant-loop s i₀ i = Digits s i
 
-abbrev decreases-loop : tie.decreases-loop
+abbrev decreases-loop : tie.decreases-loop-i
 decreases-loop s i₀ i = length s - i
 
-returns : tie.Need-returns invariant-loop decreases-loop
-returns c = another _ _ _ c.before.digit.ensures c.before.before.before.before.loop.invariant (search rules) c.if1.true
+returns : tie.Need-returns-then-digit-gt15 invariant-loop decreases-loop
+returns c = another _ _ _ c.digit.ensures c.loop-i.invariant (search rules) c.if-digit-gt15.true
 
-loop-again : tie.Need-loop-preserved invariant-loop decreases-loop
-loop-again c = one_more _ _ _ c.before.digit.ensures c.before.before.before.before.loop.invariant (search rules) c.if1.false
+loop-again : tie.Need-loop-i-preserved invariant-loop decreases-loop
+loop-again c = one_more _ _ _ c.digit.ensures c.loop-i.invariant (search rules) c.if-digit-gt15.false
 
-returns-2 : tie.Need-returns-2 invariant-loop decreases-loop
-returns-2 c = no_other _ _ c.before.loop.invariant c.loop-test.false
+returns-2 : tie.Need-returns invariant-loop decreases-loop
+returns-2 c = no_other _ _ c.loop-i.invariant c.loop-i-test.false
 
 pub no_hex_spec : {M : Type 1} → statement M
 no_hex_spec =

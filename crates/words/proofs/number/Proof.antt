@@ -9,39 +9,39 @@ use Rattle.words.proofs.Counting.{Counted, begun, at_most_9, no_digits, another,
 use Rattle.words.proofs.number.Statement.{statement}
 use Rattle.words.proofs.number.Tie as tie
 
-abbrev invariant-loop : tie.invariant-loop
+abbrev invariant-loop : tie.invariant-loop-i
 invariant-loop s n₀ i₀ n i = Counted s n i
 
-abbrev decreases-loop : tie.decreases-loop
+abbrev decreases-loop : tie.decreases-loop-i
 decreases-loop s n₀ i₀ n i = length s - i
 
-returns-2 : tie.Need-returns-2 invariant-loop decreases-loop
+returns-2 : tie.Need-returns-then-x invariant-loop decreases-loop
 returns-2 c =
-    let k = c.before.before.before in
-    another _ k.before.if1.false k.loop.n k.loop.i k.loop.invariant (search rules) c.if2.true
+    let k = c in
+    another _ k.if-s-eq0.false k.loop-i.n k.loop-i.i k.loop-i.invariant (search rules) c.if-x.true
 
-returns-3 : tie.Need-returns-3 invariant-loop decreases-loop
+returns-3 : tie.Need-returns-then-n-gt99999 invariant-loop decreases-loop
 returns-3 c =
-    let k = c.before.before.before.before in
-    too_large _ k.before.if1.false k.loop.n k.loop.i k.loop.invariant (search rules) c.if3.true
+    let k = c in
+    too_large _ k.if-s-eq0.false k.loop-i.n k.loop-i.i k.loop-i.invariant (search rules) c.if-n-gt99999.true
 
 -- the octet is a digit
-add-n : tie.Need-overflow-add-n invariant-loop decreases-loop
+add-n : tie.Need-overflow_add-n invariant-loop decreases-loop
 add-n c =
-    let k = c.before.before.before.before.before in
-    omega (arith, c.wide.ensures, at_most_9 (at k.before.before.before.args.s.now k.loop.i) c.before.before.if2.false)
+    let k = c in
+    omega (arith, c.wide.ensures, at_most_9 (at k.args.s.now k.loop-i.i) c.if-x.false)
 
-loop-again : tie.Need-loop-preserved invariant-loop decreases-loop
+loop-again : tie.Need-loop-i-preserved invariant-loop decreases-loop
 loop-again c =
-    let k = c.before.before.before.before.before in
+    let k = c in
     rw c.wide.ensures
-    (one_more _ k.before.if1.false k.loop.n k.loop.i k.loop.invariant (search rules) c.before.before.if2.false
-    c.before.if3.false)
+    (one_more _ k.if-s-eq0.false k.loop-i.n k.loop-i.i k.loop-i.invariant (search rules) c.if-x.false
+    c.if-n-gt99999.false)
 
-returns-4 : tie.Need-returns-4 invariant-loop decreases-loop
+returns-4 : tie.Need-returns invariant-loop decreases-loop
 returns-4 c =
-    let k = c.before in
-    all_read _ k.before.if1.false k.loop.n k.loop.i k.loop.invariant c.loop-test.false
+    let k = c in
+    all_read _ k.if-s-eq0.false k.loop-i.n k.loop-i.i k.loop-i.invariant c.loop-i-test.false
 
 pub number_spec : {M : Type 1} → statement M
 number_spec =

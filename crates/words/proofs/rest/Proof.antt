@@ -4,11 +4,11 @@ use Rattle.words.proofs.Splitting.{rest-behind, rest-none}
 use Rattle.words.proofs.rest.Statement.{statement}
 use Rattle.words.proofs.rest.Tie as tie
 
-returns : tie.Need-returns
-returns c = rest-none _ _ c.before.before.spaced.ensures c.before.if1.true
+returns : tie.Need-returns-then-s-n
+returns c = rest-none _ _ c.spaced-n.ensures c.if-s-n.true
 
-returns-2 : tie.Need-returns-2
-returns-2 c = rest-behind _ _ c.before.before.spaced.ensures c.before.if1.false
+returns-2 : tie.Need-returns
+returns-2 c = rest-behind _ _ c.spaced-n.ensures c.if-s-n.false
 
 pub rest_spec : {M : Type 1} → statement M
 rest_spec =

@@ -6,11 +6,11 @@ use Rattle.audit_form.proofs.Reading.more.Tie as tie
 
 returns : tie.Need-returns
 returns c =
-    let c4 = c.before.before.before.before in
-    let c7 = c4.before.before.before in
-    let c12 = c7.before.before.before.before.before in
-    let read = c7.refill.ensures in
-    grew c12.args.self read c4.have.ensures c.before.before.hand.ensures c.before.read.ensures c.brought.ensures
+    let c4 = c in
+    let c7 = c4 in
+    let c12 = c7 in
+    let read = c7.refill-read.ensures in
+    grew c12.args.self read c4.have-have.ensures c.hand.ensures c.read-form.ensures c.brought-going.ensures
 
 pub more_spec : {M : Type 1} → statement M
 more_spec =

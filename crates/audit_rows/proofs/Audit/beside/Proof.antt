@@ -8,36 +8,36 @@ use Rattle.audit_rows.proofs.Reading.{Beside, turns_left, no_turn, one_turn, all
 use Rattle.audit_rows.proofs.Audit.beside.Statement.{statement}
 use Rattle.audit_rows.proofs.Audit.beside.Tie as tie
 
-abbrev invariant-loop : tie.invariant-loop
+abbrev invariant-loop : tie.invariant-loop-done
 invariant-loop name table rows₀ packet arrival audit₀ done₀ rows audit done =
     (length rows ≡ length rows₀) × Beside audit₀ rows₀ (handed packet arrival) audit done rows
 
-abbrev decreases-loop : tie.decreases-loop
+abbrev decreases-loop : tie.decreases-loop-done
 decreases-loop name table rows₀ packet arrival audit₀ done₀ rows audit done = turns_left audit rows done
 
-loop-holds : tie.Need-loop-init invariant-loop decreases-loop
+loop-holds : tie.Need-loop-done-init invariant-loop decreases-loop
 loop-holds c = (refl, no_turn _ _ _)
 
-turn-requires : tie.Need-turn-requires invariant-loop decreases-loop
-turn-requires c κs = c.before.before.loop.invariant.1.going_on (not-true _ c.before.loop-test.true)
+turn-requires : tie.Need-turn-turned-requires invariant-loop decreases-loop
+turn-requires c κs = c.loop-done.invariant.1.going_on (not-true _ c.loop-done-test.true)
 
-loop-less : tie.Need-loop-smaller invariant-loop decreases-loop
+loop-less : tie.Need-loop-done-smaller invariant-loop decreases-loop
 loop-less c =
-    let c3 = c.before.before.before in
-    let c5 = c3.before.before in
-    fewer_turns (not-true _ c5.loop-test.true) c3.turn.ensures
+    let c3 = c in
+    let c5 = c3 in
+    fewer_turns (not-true _ c5.loop-done-test.true) c3.turn-turned.ensures
 
-loop-again : tie.Need-loop-preserved invariant-loop decreases-loop
+loop-again : tie.Need-loop-done-preserved invariant-loop decreases-loop
 loop-again c =
-    let c3 = c.before.before.before in
-    let c5 = c3.before.before in
-    let c6 = c5.before in (
-      c3.turn.auto.1.1.1.0 ∙ c6.loop.invariant.0,
-      one_turn _ _ _ c6.loop.invariant.1 (not-true _ c5.loop-test.true) c3.turn.ensures,
+    let c3 = c in
+    let c5 = c3 in
+    let c6 = c5 in (
+      c3.turn-turned.auto.1.1.1.0 ∙ c6.loop-done.invariant.0,
+      one_turn _ _ _ c6.loop-done.invariant.1 (not-true _ c5.loop-done-test.true) c3.turn-turned.ensures,
     )
 
 returns : tie.Need-returns invariant-loop decreases-loop
-returns c = all-turns _ _ _ c.before.loop.invariant.1 (not-false _ c.loop-test.false)
+returns c = all-turns _ _ _ c.loop-done.invariant.1 (not-false _ c.loop-done-test.false)
 
 pub beside_spec : {M : Type 1} → statement M
 beside_spec = tie.close (tie.spec invariant-loop decreases-loop loop-holds turn-requires loop-less loop-again (λ c. search rules) returns)

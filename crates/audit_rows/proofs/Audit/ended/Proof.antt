@@ -4,14 +4,14 @@ use Rattle.audit_rows.proofs.Reading.{ends-over, ends-told}
 use Rattle.audit_rows.proofs.Audit.ended.Statement.{statement}
 use Rattle.audit_rows.proofs.Audit.ended.Tie as tie
 
-returns : tie.Need-returns
-returns c = ends-over _ _ c.if1.true
+returns : tie.Need-returns-then-self
+returns c = ends-over _ _ c.if-self.true
 
-returns-2 : tie.Need-returns-2
+returns-2 : tie.Need-returns
 returns-2 c =
-    let c7 = c.before.before.before.before.before.before.before in
-    let c9 = c7.before.before in
-    ends-told _ _ c9.if1.false c7.filled.ensures c.before.before.hand.ensures c.before.end.ensures c.stopped.ensures
+    let c7 = c in
+    let c9 = c7 in
+    ends-told _ _ c9.if-self.false c7.filled-audit.ensures c.hand.ensures c.end-verdict.ensures c.stopped.ensures
 
 pub ended_spec : {M : Type 1} → statement M
 ended_spec =

@@ -10,45 +10,45 @@ use Rattle.audit_rows.proofs.Reading.{Filled, none_filled, more-filled, dry-fill
 use Rattle.audit_rows.proofs.Audit.filled.Statement.{statement}
 use Rattle.audit_rows.proofs.Audit.filled.Tie as tie
 
-abbrev invariant-loop : tie.invariant-loop
+abbrev invariant-loop : tie.invariant-loop-here
 invariant-loop name table rows₀ audit₀ first last here₀ rows audit here =
     (length rows ≡ length rows₀) × (here ≡ length (hand_of audit rows)) × Filled audit₀ rows₀ audit rows
 
-abbrev decreases-loop : tie.decreases-loop
+abbrev decreases-loop : tie.decreases-loop-here
 decreases-loop name table rows₀ audit₀ first last here₀ rows audit here = 17 - here
 
-loop-holds : tie.Need-loop-init invariant-loop decreases-loop
-loop-holds c = (refl, ap length c.hand.ensures, none_filled _ _)
+loop-holds : tie.Need-loop-here-init invariant-loop decreases-loop
+loop-holds c = (refl, ap length c.hand-here.ensures, none_filled _ _)
 
-returns : tie.Need-returns invariant-loop decreases-loop
+returns : tie.Need-returns-then-not-brought invariant-loop decreases-loop
 returns c =
-    let c5 = c.before.before.before.before.before in
-    let c7 = c5.before.before in
-    let c8 = c7.before in
-    let l = c8.loop in
-    let short : length (hand_of l.audit l.rows) < 17 = omega (arith, l.invariant.1, c7.loop-test.true) in
-    let none = sym c.before.brought.ensures ∙ not-true _ c.if1.true in
-    dry-filled l.invariant.2 c5.refill.ensures short c.before.before.have.ensures none
+    let c5 = c in
+    let c7 = c5 in
+    let c8 = c7 in
+    let l = c8.loop-here in
+    let short : length (hand_of l.audit l.rows) < 17 = omega (arith, l.invariant.1, c7.loop-here-test.true) in
+    let none = sym c.brought.ensures ∙ not-true _ c.if-not-brought.true in
+    dry-filled l.invariant.2 c5.refill-read.ensures short c.have-here.ensures none
 
-loop-less : tie.Need-loop-smaller invariant-loop decreases-loop
+loop-less : tie.Need-loop-here-smaller invariant-loop decreases-loop
 loop-less c =
-    let c5 = c.before.before.before.before.before in
-    let c7 = c5.before.before in
-    let c8 = c7.before in
-    let l = c8.loop in
-    let some = sym c.before.brought.ensures ∙ not-false _ c.if1.false in
-    omega (arith, more-here c5.refill.ensures l.invariant.1 some, c7.loop-test.true, c.before.before.have.ensures)
+    let c5 = c in
+    let c7 = c5 in
+    let c8 = c7 in
+    let l = c8.loop-here in
+    let some = sym c.brought.ensures ∙ not-false _ c.if-not-brought.false in
+    omega (arith, more-here c5.refill-read.ensures l.invariant.1 some, c7.loop-here-test.true, c.have-here.ensures)
 
-loop-again : tie.Need-loop-preserved invariant-loop decreases-loop
+loop-again : tie.Need-loop-here-preserved invariant-loop decreases-loop
 loop-again c =
-    let c5 = c.before.before.before.before.before in
-    let c7 = c5.before.before in
-    let c8 = c7.before in
-    let l = c8.loop in
-    let read = c5.refill in
-    let short : length (hand_of l.audit l.rows) < 17 = omega (arith, l.invariant.1, c7.loop-test.true) in
-    let same = c.before.before.have.ensures in
-    let some = sym c.before.brought.ensures ∙ not-false _ c.if1.false in
+    let c5 = c in
+    let c7 = c5 in
+    let c8 = c7 in
+    let l = c8.loop-here in
+    let read = c5.refill-read in
+    let short : length (hand_of l.audit l.rows) < 17 = omega (arith, l.invariant.1, c7.loop-here-test.true) in
+    let same = c.have-here.ensures in
+    let some = sym c.brought.ensures ∙ not-false _ c.if-not-brought.false in
     (read.auto.1.1.0 ∙ l.invariant.0, here_by read.ensures same, more-filled l.invariant.2 read.ensures short same some)
 
 pub filled_spec : {M : Type 1} → statement M
@@ -57,4 +57,4 @@ filled_spec =
     (tie.spec
     invariant-loop decreases-loop (λ c κs. search rules) loop-holds (λ c κs. search rules) (λ c κs. search rules) (λ c κs. search rules)
     (λ c. search rules) returns loop-less loop-again
-    (λ c. search rules) (λ c. full-filled c.before.loop.invariant.2 (omega (arith, c.before.loop.invariant.1, c.loop-test.false))))
+    (λ c. search rules) (λ c. full-filled c.loop-here.invariant.2 (omega (arith, c.loop-here.invariant.1, c.loop-test.false))))

@@ -5,7 +5,7 @@ use Rattle.audit_rows.proofs.Audit.fresh.Statement.{statement}
 use Rattle.audit_rows.proofs.Audit.fresh.Tie as tie
 
 returns : tie.Need-returns
-returns c = freshly _ c.none.ensures
+returns c = freshly _ c.none-read.ensures
 
 pub fresh_spec : {M : Type 1} → statement M
 fresh_spec = tie.close (tie.spec (λ c κs. search rules) returns)

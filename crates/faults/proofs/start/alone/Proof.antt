@@ -5,31 +5,31 @@ use Rattle.faults.proofs.Looks.{all-alone, other, goes_on_lem}
 use Rattle.faults.proofs.start.alone.Statement.{statement}
 use Rattle.faults.proofs.start.alone.Tie as tie
 
-abbrev invariant-loop : tie.invariant-loop
+abbrev invariant-loop : tie.invariant-loop-i
 invariant-loop octets i₀ i = alone octets ≡ alone (drop i octets)
 
-abbrev decreases-loop : tie.decreases-loop
+abbrev decreases-loop : tie.decreases-loop-i
 decreases-loop octets i₀ i = length octets - i
 
-loop-holds : tie.Need-loop-init invariant-loop decreases-loop
+loop-holds : tie.Need-loop-i-init invariant-loop decreases-loop
 loop-holds c = refl
 
-returns : tie.Need-returns invariant-loop decreases-loop
+returns : tie.Need-returns-then-octets-i-gt1 invariant-loop decreases-loop
 returns c =
-    let p3 = c.before.before.before in
-    let s = p3.before.args.octets.now in
-    sym (p3.loop.invariant ∙ other s p3.loop.i c.before.before.loop-test.true c.if1.true)
+    let p3 = c in
+    let s = p3.args.octets.now in
+    sym (p3.loop-i.invariant ∙ other s p3.loop-i.i c.loop-i-test.true c.if-octets-i-gt1.true)
 
-loop-again : tie.Need-loop-preserved invariant-loop decreases-loop
+loop-again : tie.Need-loop-i-preserved invariant-loop decreases-loop
 loop-again c =
-    let p3 = c.before.before.before in
-    let s = p3.before.args.octets.now in
-    p3.loop.invariant ∙ goes_on_lem s p3.loop.i c.before.before.loop-test.true c.if1.false
+    let p3 = c in
+    let s = p3.args.octets.now in
+    p3.loop-i.invariant ∙ goes_on_lem s p3.loop-i.i c.loop-i-test.true c.if-octets-i-gt1.false
 
-returns-2 : tie.Need-returns-2 invariant-loop decreases-loop
+returns-2 : tie.Need-returns invariant-loop decreases-loop
 returns-2 c =
-    let l = c.before.loop in
-    sym (l.invariant ∙ all-alone c.before.before.args.octets.now l.i c.loop-test.false)
+    let l = c.loop-i in
+    sym (l.invariant ∙ all-alone c.args.octets.now l.i c.loop-i-test.false)
 
 pub alone_spec : {M : Type 1} → statement M
 alone_spec =

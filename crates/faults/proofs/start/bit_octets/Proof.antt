@@ -5,13 +5,13 @@ use Rattle.faults.proofs.Looks.{both}
 use Rattle.faults.proofs.start.bit_octets.Statement.{statement}
 use Rattle.faults.proofs.start.bit_octets.Tie as tie
 
-returns : tie.Need-returns
-returns c = picked _ _ _ (lt-ltb _ _ c.if1.true)
+returns : tie.Need-returns-then-octets-lt16
+returns c = picked _ _ _ (lt-ltb _ _ c.if-octets-lt16.true)
 
-returns-2 : tie.Need-returns-2
+returns-2 : tie.Need-returns
 returns-2 c =
-    let p2 = c.before.before in
-    passed _ _ _ _ (le-ltb _ _ p2.before.if1.false) (both c.before.alone.ensures c.one-among.ensures p2.part.ensures)
+    let p2 = c in
+    passed _ _ _ _ (le-ltb _ _ p2.if-octets-lt16.false) (both c.alone.ensures c.one_among.ensures p2.part-first.ensures)
 
 pub bit_octets_spec : {M : Type 1} → statement M
 bit_octets_spec = tie.close (tie.spec returns (λ c κs. search rules) (λ c κs. search rules) (λ c κs. search rules) returns-2)

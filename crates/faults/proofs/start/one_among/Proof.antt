@@ -5,31 +5,31 @@ use Rattle.faults.proofs.Looks.{none_left, one-here, one_later}
 use Rattle.faults.proofs.start.one_among.Statement.{statement}
 use Rattle.faults.proofs.start.one_among.Tie as tie
 
-abbrev invariant-loop : tie.invariant-loop
+abbrev invariant-loop : tie.invariant-loop-i
 invariant-loop octets i₀ i = one_among octets ≡ one_among (drop i octets)
 
-abbrev decreases-loop : tie.decreases-loop
+abbrev decreases-loop : tie.decreases-loop-i
 decreases-loop octets i₀ i = length octets - i
 
-loop-holds : tie.Need-loop-init invariant-loop decreases-loop
+loop-holds : tie.Need-loop-i-init invariant-loop decreases-loop
 loop-holds c = refl
 
-returns : tie.Need-returns invariant-loop decreases-loop
+returns : tie.Need-returns-then-octets-i-ne0 invariant-loop decreases-loop
 returns c =
-    let p3 = c.before.before.before in
-    let s = p3.before.args.octets.now in
-    sym (p3.loop.invariant ∙ one-here s p3.loop.i c.before.before.loop-test.true c.if1.true)
+    let p3 = c in
+    let s = p3.args.octets.now in
+    sym (p3.loop-i.invariant ∙ one-here s p3.loop-i.i c.loop-i-test.true c.if-octets-i-ne0.true)
 
-loop-again : tie.Need-loop-preserved invariant-loop decreases-loop
+loop-again : tie.Need-loop-i-preserved invariant-loop decreases-loop
 loop-again c =
-    let p3 = c.before.before.before in
-    let s = p3.before.args.octets.now in
-    p3.loop.invariant ∙ one_later s p3.loop.i c.before.before.loop-test.true c.if1.false
+    let p3 = c in
+    let s = p3.args.octets.now in
+    p3.loop-i.invariant ∙ one_later s p3.loop-i.i c.loop-i-test.true c.if-octets-i-ne0.false
 
-returns-2 : tie.Need-returns-2 invariant-loop decreases-loop
+returns-2 : tie.Need-returns invariant-loop decreases-loop
 returns-2 c =
-    let l = c.before.loop in
-    sym (l.invariant ∙ none_left c.before.before.args.octets.now l.i c.loop-test.false)
+    let l = c.loop-i in
+    sym (l.invariant ∙ none_left c.args.octets.now l.i c.loop-i-test.false)
 
 pub one_among_spec : {M : Type 1} → statement M
 one_among_spec =

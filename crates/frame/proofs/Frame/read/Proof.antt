@@ -8,9 +8,9 @@ use borrow.Author.Rules.{rules}
 use Rattle.frame.proofs.Frame.read.Statement.{statement}
 use Rattle.frame.proofs.Frame.read.Tie as tie
 
-returns : tie.Need-returns
+returns : tie.Need-returns-then-time-gt-LONGEST_TIME
 unfolding read_frame
-returns c = plainly c.plain.ensures (picked _ _ _ (lt-ltb _ _ c.before.if1.true))
+returns c = plainly c.plain.ensures (picked _ _ _ (lt-ltb _ _ c.if-time-gt-LONGEST_TIME.true))
 
 pub read_spec : {M : Type 1} → statement M
 unfolding read_frame

@@ -4,7 +4,7 @@ use borrow.Author.Rules.{rules}
 use Rattle.frame.proofs.Frame.time.Statement.{statement}
 use Rattle.frame.proofs.Frame.time.Tie as tie
 
-returns : tie.Need-returns
+returns : tie.Need-returns-then-octets-self
 returns c = part_none _ _ _ (omega arith)
 
 pub time_spec : {M : Type 1} → statement M

@@ -7,11 +7,11 @@ use borrow.Author.Rules.{rules}
 use Rattle.frame.proofs.Frame.write.Statement.{statement}
 use Rattle.frame.proofs.Frame.write.Tie as tie
 
-add-whole-2 : tie.Need-overflow-add-whole-2
+add-whole-2 : tie.Need-overflow_add-whole-2
 add-whole-2 c =
-    let a = c.before.before.before.before.before.args in
+    let a = c.args in
     let r =
-    in_range a.self a.t (length a.«data».now) (length a.time.now) (sym c.before.fields-wrong.ensures ∙ c.if1.false) in
+    in_range a.self a.t (length a.«data».now) (length a.time.now) (sym c.fields_wrong.ensures ∙ c.if-fields_wrong.false) in
     omega (arith, r.time, r.lent)
 
 pub write_spec : {M : Type 1} → statement M

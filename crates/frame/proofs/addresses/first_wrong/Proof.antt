@@ -37,50 +37,50 @@ module _ (s : List ℕ) (last i : ℕ) where
   unfolding wrong_behind
   none l b h = let e : 5 - i ≡ 0 = omega arith in rw e (passed _ _ _ _ (ne_eqb _ _ b) (passed _ _ _ _ h refl))
 
-abbrev invariant-loop : tie.invariant-loop
+abbrev invariant-loop : tie.invariant-loop-i
 invariant-loop s last i₀ i = (i ≤ 5) × (left s last i ≡ first_wrong s last)
 
-abbrev decreases-loop : tie.decreases-loop
+abbrev decreases-loop : tie.decreases-loop-i
 decreases-loop s last i₀ i = 5 - i
 
-returns : tie.Need-returns invariant-loop decreases-loop
+returns : tie.Need-returns-then-start_wrong invariant-loop decreases-loop
 unfolding first_wrong
-returns c = picked _ _ _ (through c.before.start-wrong.ensures c.if1.true)
+returns c = picked _ _ _ (through c.start_wrong.ensures c.if-start_wrong.true)
 
-loop-holds : tie.Need-loop-init invariant-loop decreases-loop
+loop-holds : tie.Need-loop-i-init invariant-loop decreases-loop
 unfolding first_wrong
-loop-holds c = (search rules, passed _ _ _ _ (through c.before.start-wrong.ensures c.if1.false) refl)
+loop-holds c = (search rules, passed _ _ _ _ (through c.start_wrong.ensures c.if-start_wrong.false) refl)
 
-returns-2 : tie.Need-returns-2 invariant-loop decreases-loop
+returns-2 : tie.Need-returns-then-next_wrong invariant-loop decreases-loop
 returns-2 c =
-    let turn = c.before.before.before.before in
-    here _ _ _ turn.loop-test.true (through c.before.next-wrong.ensures c.if2.true) ∙ turn.before.loop.invariant.1
+    let turn = c in
+    here _ _ _ turn.loop-i-test.true (through c.next_wrong.ensures c.if-next_wrong.true) ∙ turn.loop-i.invariant.1
 
-loop-again : tie.Need-loop-preserved invariant-loop decreases-loop
+loop-again : tie.Need-loop-i-preserved invariant-loop decreases-loop
 loop-again c =
-    let turn = c.before.before.before.before in (
+    let turn = c in (
       search rules,
-      further _ _ _ turn.loop-test.true (through c.before.next-wrong.ensures c.if2.false) ∙ turn.before.loop.invariant.1,
+      further _ _ _ turn.loop-i-test.true (through c.next_wrong.ensures c.if-next_wrong.false) ∙ turn.loop-i.invariant.1,
     )
 
-returns-3 : tie.Need-returns-3 invariant-loop decreases-loop
+returns-3 : tie.Need-returns-then-s-eq-BLANK invariant-loop decreases-loop
 returns-3 c =
-    let end = c.before.before in
-    all-blank _ _ _ end.loop-test.false c.if3.true ∙ end.before.loop.invariant.1
+    let end = c in
+    all-blank _ _ _ end.loop-i-test.false c.if-s-eq-BLANK.true ∙ end.loop-i.invariant.1
 
-returns-4 : tie.Need-returns-4 invariant-loop decreases-loop
+returns-4 : tie.Need-returns-then-ssid_wrong invariant-loop decreases-loop
 returns-4 c =
-    let filled = c.before.before.before in
-    let end = filled.before.before in
-    ssid-here _ _ _ end.loop-test.false filled.if3.false (through c.before.ssid-wrong.ensures c.if4.true)
-    ∙ end.before.loop.invariant.1
+    let filled = c in
+    let end = filled in
+    ssid-here _ _ _ end.loop-i-test.false filled.if-s-eq-BLANK.false (through c.ssid_wrong.ensures c.if-ssid_wrong.true)
+    ∙ end.loop-i.invariant.1
 
-returns-5 : tie.Need-returns-5 invariant-loop decreases-loop
+returns-5 : tie.Need-returns invariant-loop decreases-loop
 returns-5 c =
-    let filled = c.before.before.before in
-    let end = filled.before.before in
-    none _ _ _ end.loop-test.false filled.if3.false (through c.before.ssid-wrong.ensures c.if4.false)
-    ∙ end.before.loop.invariant.1
+    let filled = c in
+    let end = filled in
+    none _ _ _ end.loop-i-test.false filled.if-s-eq-BLANK.false (through c.ssid_wrong.ensures c.if-ssid_wrong.false)
+    ∙ end.loop-i.invariant.1
 
 pub first_wrong_spec : {M : Type 1} → statement M
 first_wrong_spec =

@@ -5,12 +5,12 @@ use Rattle.frame.proofs.addresses.unfit.Tie as tie
 returns : tie.Need-returns
 returns c =
     simp (
-      c.breaks5.ensures,
-      c.before.breaks4.ensures,
-      c.before.before.breaks3.ensures,
-      c.before.before.before.breaks2.ensures,
-      c.before.before.before.before.breaks.ensures,
-      c.before.before.before.before.before.sign.ensures,
+      c.breaks-5.ensures,
+      c.breaks-4.ensures,
+      c.breaks-3.ensures,
+      c.breaks-2.ensures,
+      c.breaks.ensures,
+      c.sign.ensures,
     )
 
 pub unfit_spec : {M : Type 1} → statement M

@@ -5,12 +5,12 @@ use borrow.Author.Rules.{rules}
 use Rattle.frame.proofs.reading.check_wrong.Statement.{statement}
 use Rattle.frame.proofs.reading.check_wrong.Tie as tie
 
-slice-aggregate-frame-check : tie.Need-slice-aggregate-frame-check
+slice-aggregate-frame-check : tie.Need-slice_bounds-frame_check-length
 slice-aggregate-frame-check c = sym (length-take-le _ _ (search rules))
 
 returns : tie.Need-returns
 unfolding check_wrong
-returns c = simp (c.frame-check.ensures, c.before.before.word.ensures)
+returns c = simp (c.frame_check.ensures, c.word.ensures)
 
 pub check_wrong_spec : {M : Type 1} → statement M
 check_wrong_spec =

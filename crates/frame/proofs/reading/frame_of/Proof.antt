@@ -5,8 +5,8 @@ use Rattle.frame.proofs.reading.frame_of.Tie as tie
 
 returns : tie.Need-returns
 returns c =
-    let source = c.before.before.before.before.before in
-    addressed _ c.new.ensures source.before.before.address-of.ensures source.address-of2.ensures
+    let source = c in
+    addressed _ c.new.ensures source.address_of-destination.ensures source.address_of-source.ensures
 
 pub frame_of_spec : {M : Type 1} → statement M
 frame_of_spec =

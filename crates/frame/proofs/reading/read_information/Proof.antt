@@ -6,19 +6,19 @@ use Rattle.frame.proofs.Reader.{plainly, accepting}
 use Rattle.frame.proofs.reading.read_information.Statement.{statement}
 use Rattle.frame.proofs.reading.read_information.Tie as tie
 
-returns : tie.Need-returns
+returns : tie.Need-returns-then-version_wrong
 unfolding read_information
 returns c = search (plainly, answers) depth 9
 
-returns-2 : tie.Need-returns-2
+returns-2 : tie.Need-returns-then-status_wrong
 unfolding read_information
 returns-2 c = search (plainly, answers) depth 9
 
-returns-3 : tie.Need-returns-3
+returns-3 : tie.Need-returns-then-pointer_wrong
 unfolding read_information
 returns-3 c = search (plainly, answers) depth 9
 
-returns-4 : tie.Need-returns-4
+returns-4 : tie.Need-returns
 returns-4 c = search (accepting, answers) depth 9
 
 pub read_information_spec : {M : Type 1} → statement M

@@ -5,7 +5,7 @@ use Rattle.frame.proofs.reading.status_wrong.Tie as tie
 
 returns : tie.Need-returns
 unfolding status_wrong
-returns c = simp (c.flag.ensures, c.before.wide.ensures)
+returns c = simp (c.flag.ensures, c.wide.ensures)
 
 pub status_wrong_spec : {M : Type 1} → statement M
 status_wrong_spec = tie.close

@@ -5,14 +5,14 @@ use borrow.Author.Rules.{rules}
 use Rattle.frame.proofs.writing.fields_wrong.Statement.{statement}
 use Rattle.frame.proofs.writing.fields_wrong.Tie as tie
 
-returns-2 : tie.Need-returns-2
+returns-2 : tie.Need-returns
 unfolding fields_wrong
 returns-2 c =
     simp (
-      le-ltb _ _ c.before.before.before.before.before.before.if1.false,
-      c.before.before.pointer-wrong.ensures,
-      c.before.unfit.ensures,
-      c.unfit2.ensures,
+      le-ltb _ _ c.if-t-gt-LONGEST_TIME.false,
+      c.pointer_wrong.ensures,
+      c.unfit.ensures,
+      c.unfit-2.ensures,
     )
 
 pub fields_wrong_spec : {M : Type 1} → statement M

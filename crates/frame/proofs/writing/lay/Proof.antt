@@ -5,14 +5,14 @@ use Rattle.frame.proofs.writing.lay.Tie as tie
 
 returns : tie.Need-returns
 returns c =
-    let time = c.before.before.before.before.before.before in
-    let state = time.before.before.before.before in
+    let time = c in
+    let state = time in
     let «data» = state.before.before.before.before.before in
     let front = «data».before.before.before.before in
     let start = front.before.before in
-    let asked = start.before.before.before.before.requires in
+    let asked = start.requires in
     steps _ _ _ _ _ asked.room asked.lent start.status.ensures front.lay-front.ensures «data».put.ensures
-    state.put2.ensures time.put3.ensures c.before.before.seal.ensures
+    state.put-2.ensures time.put-3.ensures c.seal.ensures
 
 pub lay_spec : {M : Type 1} → statement M
 lay_spec =

@@ -4,13 +4,13 @@ use borrow.Author.Rules.{rules}
 use Rattle.frame.proofs.writing.seal.Statement.{statement}
 use Rattle.frame.proofs.writing.seal.Tie as tie
 
-slice-aggregate-frame-check : tie.Need-slice-aggregate-frame-check
+slice-aggregate-frame-check : tie.Need-slice_bounds-frame_check-end-2
 slice-aggregate-frame-check c = sym (length-take-le _ _ (search rules))
 
 returns : tie.Need-returns
 returns c =
-    let check = c.before.before.before.before.before in
-    c.before.before.put.ensures ∙ simp check.frame-check.ensures
+    let check = c in
+    c.put.ensures ∙ simp check.frame_check-check.ensures
 
 pub seal_spec : {M : Type 1} → statement M
 seal_spec =

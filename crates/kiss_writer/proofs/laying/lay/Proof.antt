@@ -8,55 +8,55 @@ use Rattle.kiss_writer.proofs.Blocks.{fits, long, Writing, writing-first, writin
 use Rattle.kiss_writer.proofs.laying.lay.Statement.{statement}
 use Rattle.kiss_writer.proofs.laying.lay.Tie as tie
 
-abbrev invariant-loop : tie.invariant-loop
+abbrev invariant-loop : tie.invariant-loop-i
 invariant-loop octets lengths out₀ end₀ at₀ i₀ out end at i = Writing octets lengths out₀ out end at i
 
-abbrev decreases-loop : tie.decreases-loop
+abbrev decreases-loop : tie.decreases-loop-i
 decreases-loop octets lengths out₀ end₀ at₀ i₀ out end at i = length lengths - i
 
-slice-write-out : tie.Need-slice-write-out invariant-loop decreases-loop
-slice-write-out c = omega (arith, c.before.before.before.requires.room)
+slice-write-out : tie.Need-bounds-out-0 invariant-loop decreases-loop
+slice-write-out c = omega (arith, c.requires.room)
 
-loop-holds : tie.Need-loop-init invariant-loop decreases-loop
-loop-holds c = writing-first c.before.before.before.requires
+loop-holds : tie.Need-loop-i-init invariant-loop decreases-loop
+loop-holds c = writing-first c.requires
 
-cast-next : tie.Need-overflow-cast-next invariant-loop decreases-loop
-cast-next c = omega (arith, c.shared-slice-known3.given c.before.before.loop.i)
+cast-next : tie.Need-overflow_cast-next invariant-loop decreases-loop
+cast-next c = omega (arith, c.shared_slice_known-in-loop-i-1.given c.loop-i.i)
 
-add-next : tie.Need-overflow-add-next invariant-loop decreases-loop
-add-next c = let k = c.before in record { fits = omega (arith, fits k.before.loop.invariant.standing k.loop-test.true) }
+add-next : tie.Need-overflow_add-next invariant-loop decreases-loop
+add-next c = let k = c in record { fits = omega (arith, fits k.loop-i.invariant.standing k.loop-i-test.true) }
 
-sub-body : tie.Need-overflow-sub-body invariant-loop decreases-loop
-sub-body c = let k = c.before in omega (arith, long k.before.loop.invariant.standing k.loop-test.true)
+sub-body : tie.Need-overflow_sub-body invariant-loop decreases-loop
+sub-body c = let k = c in omega (arith, long k.loop-i.invariant.standing k.loop-i-test.true)
 
-sub-lay-block : tie.Need-overflow-sub-lay-block invariant-loop decreases-loop
-sub-lay-block c = let k = c.before in omega (arith, long k.before.loop.invariant.standing k.loop-test.true)
+sub-lay-block : tie.Need-slice_bounds-lay_block-count invariant-loop decreases-loop
+sub-lay-block c = let k = c in omega (arith, long k.loop-i.invariant.standing k.loop-i-test.true)
 
-part-lay-block-start : tie.Need-slice-bounds-lay-block-start invariant-loop decreases-loop
-part-lay-block-start c = let k = c.before in omega (arith, long k.before.loop.invariant.standing k.loop-test.true)
+part-lay-block-start : tie.Need-slice_bounds-lay_block-start invariant-loop decreases-loop
+part-lay-block-start c = let k = c in omega (arith, long k.loop-i.invariant.standing k.loop-i-test.true)
 
-part-lay-block-end : tie.Need-slice-bounds-lay-block-end invariant-loop decreases-loop
-part-lay-block-end c = let k = c.before in omega (arith, fits k.before.loop.invariant.standing k.loop-test.true)
+part-lay-block-end : tie.Need-slice_bounds-lay_block-end invariant-loop decreases-loop
+part-lay-block-end c = let k = c in omega (arith, fits k.loop-i.invariant.standing k.loop-i-test.true)
 
-lay-block-requires : tie.Need-lay-block-requires invariant-loop decreases-loop
+lay-block-requires : tie.Need-lay_block-end-requires invariant-loop decreases-loop
 lay-block-requires c κs =
-    let k = c.before.before.before in
-    writing-room k.before.loop.invariant k.loop-test.true
+    let k = c in
+    writing-room k.loop-i.invariant k.loop-i-test.true
 
-loop-again : tie.Need-loop-preserved invariant-loop decreases-loop
+loop-again : tie.Need-loop-i-preserved invariant-loop decreases-loop
 loop-again c =
-    let k = c.before.before.before.before.before.before in
-    writing-next k.before.loop.invariant k.loop-test.true c.before.before.lay-block.ensures
+    let k = c in
+    writing-next k.loop-i.invariant k.loop-i-test.true c.lay_block-end.ensures
 
-same_length : tie.Need-same-length invariant-loop decreases-loop
+same_length : tie.Need-shape_of-out invariant-loop decreases-loop
 same_length c =
-    let a = c.before.before.before.before.before.args in
-    c.before.loop.invariant.laying.same ∙ length-set a.out.now 0 192
+    let a = c.args in
+    c.loop-i.invariant.laying.same ∙ length-set a.out.now 0 192
 
 returns : tie.Need-returns invariant-loop decreases-loop
 returns c =
-    let a = c.before.before.before.before.before.args in
-    writing-end a.octets.now a.lengths.now a.out.now c.before.loop.invariant c.loop-test.false
+    let a = c.args in
+    writing-end a.octets.now a.lengths.now a.out.now c.loop-i.invariant c.loop-i-test.false
 
 pub lay_spec : {M : Type 1} → statement M
 lay_spec =

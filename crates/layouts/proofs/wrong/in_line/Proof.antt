@@ -8,40 +8,40 @@ use borrow.Author.Rules.{rules}
 use Rattle.layouts.proofs.wrong.in_line.Statement.{statement}
 use Rattle.layouts.proofs.wrong.in_line.Tie as tie
 
-abbrev invariant-loop : tie.invariant-loop
+abbrev invariant-loop : tie.invariant-loop-i
 invariant-loop text at octet i₀ i = in_line octet (drop at text) ≡ in_line octet (drop i text)
 
-abbrev decreases-loop : tie.decreases-loop
+abbrev decreases-loop : tie.decreases-loop-i
 decreases-loop text at octet i₀ i = length text - i
 
-loop-holds : tie.Need-loop-init invariant-loop decreases-loop
+loop-holds : tie.Need-loop-i-init invariant-loop decreases-loop
 loop-holds c = refl
 
-returns : tie.Need-returns invariant-loop decreases-loop
+returns : tie.Need-returns-then-text-i-eq10 invariant-loop decreases-loop
 returns c =
-    let p3 = c.before.before.before in
-    let a = p3.before.args in
-    sym (p3.loop.invariant ∙ line-ends a.text.now p3.loop.i c.before.before.loop-test.true a.octet c.if1.true)
+    let p3 = c in
+    let a = p3.args in
+    sym (p3.loop-i.invariant ∙ line-ends a.text.now p3.loop-i.i c.loop-i-test.true a.octet c.if-text-i-eq10.true)
 
-returns-2 : tie.Need-returns-2 invariant-loop decreases-loop
+returns-2 : tie.Need-returns-then-text-i invariant-loop decreases-loop
 returns-2 c =
-    let p4 = c.before.before.before.before in
-    let l = p4.before.loop in
-    let a = p4.before.before.args in
-    sym (l.invariant ∙ in_here a.text.now l.i p4.loop-test.true c.before.before.if1.false a.octet c.if2.true)
+    let p4 = c in
+    let l = p4.loop-i in
+    let a = p4.args in
+    sym (l.invariant ∙ in_here a.text.now l.i p4.loop-i-test.true c.if-text-i-eq10.false a.octet c.if-text-i.true)
 
-loop-again : tie.Need-loop-preserved invariant-loop decreases-loop
+loop-again : tie.Need-loop-i-preserved invariant-loop decreases-loop
 loop-again c =
-    let p4 = c.before.before.before.before in
-    let l = p4.before.loop in
-    let a = p4.before.before.args in
-    l.invariant ∙ in_later a.text.now l.i p4.loop-test.true c.before.before.if1.false a.octet c.if2.false
+    let p4 = c in
+    let l = p4.loop-i in
+    let a = p4.args in
+    l.invariant ∙ in_later a.text.now l.i p4.loop-i-test.true c.if-text-i-eq10.false a.octet c.if-text-i.false
 
-returns-3 : tie.Need-returns-3 invariant-loop decreases-loop
+returns-3 : tie.Need-returns invariant-loop decreases-loop
 returns-3 c =
-    let l = c.before.loop in
-    let a = c.before.before.args in
-    sym (l.invariant ∙ not_behind a.text.now l.i a.octet c.loop-test.false)
+    let l = c.loop-i in
+    let a = c.args in
+    sym (l.invariant ∙ not_behind a.text.now l.i a.octet c.loop-i-test.false)
 
 pub in_line_spec : {M : Type 1} → statement M
 in_line_spec =

@@ -10,19 +10,19 @@ use borrow.Author.Rules.{rules}
 use Rattle.layouts.proofs.wrong.numbers_at.Statement.{statement}
 use Rattle.layouts.proofs.wrong.numbers_at.Tie as tie
 
-returns : tie.Need-returns
+returns : tie.Need-returns-then-same
 unfolding numbers_at
 returns c =
-    let p2 = c.before.before in
-    let word = ap (λ (s : List ℕ). same s layout_word) (sym p2.before.before.part.ensures) in
-    c.second.ensures ∙ picked _ _ _ (word ∙ sym p2.same.ensures ∙ c.before.if1.true)
+    let p2 = c in
+    let word = ap (λ (s : List ℕ). same s layout_word) (sym p2.part.ensures) in
+    c.second.ensures ∙ picked _ _ _ (word ∙ sym p2.same.ensures ∙ c.if-same.true)
 
-returns-2 : tie.Need-returns-2
+returns-2 : tie.Need-returns
 unfolding numbers_at
 returns-2 c =
-    let p = c.before in
-    let word = ap (λ (s : List ℕ). same s layout_word) (sym p.before.before.part.ensures) in
-    passed _ _ _ _ (word ∙ sym p.same.ensures ∙ c.if1.false) refl
+    let p = c in
+    let word = ap (λ (s : List ℕ). same s layout_word) (sym p.part.ensures) in
+    passed _ _ _ _ (word ∙ sym p.same.ensures ∙ c.if-same.false) refl
 
 pub numbers_at_spec : {M : Type 1} → statement M
 numbers_at_spec =

@@ -9,41 +9,41 @@ use borrow.Author.Rules.{rules}
 use Rattle.layouts.proofs.wrong.second.Statement.{statement}
 use Rattle.layouts.proofs.wrong.second.Tie as tie
 
-abbrev invariant-loop : tie.invariant-loop
+abbrev invariant-loop : tie.invariant-loop-i
 invariant-loop text at i₀ i = at + to_second (drop at text) ≡ i + to_second (drop i text)
 
-abbrev decreases-loop : tie.decreases-loop
+abbrev decreases-loop : tie.decreases-loop-i
 decreases-loop text at i₀ i = length text - i
 
-loop-holds : tie.Need-loop-init invariant-loop decreases-loop
+loop-holds : tie.Need-loop-i-init invariant-loop decreases-loop
 loop-holds c = refl
 
-returns : tie.Need-returns invariant-loop decreases-loop
+returns : tie.Need-returns-then-text-i-eq10 invariant-loop decreases-loop
 returns c =
-    let p3 = c.before.before.before in
-    let e = word-ends p3.before.args.text.now p3.loop.i c.before.before.loop-test.true c.if1.true in
-    omega (arith, p3.loop.invariant, e)
+    let p3 = c in
+    let e = word-ends p3.args.text.now p3.loop-i.i c.loop-i-test.true c.if-text-i-eq10.true in
+    omega (arith, p3.loop-i.invariant, e)
 
-returns-2 : tie.Need-returns-2 invariant-loop decreases-loop
+returns-2 : tie.Need-returns-then-text-i-eq32 invariant-loop decreases-loop
 returns-2 c =
-    let p4 = c.before.before.before.before in
-    let l = p4.before.loop in
-    let text = p4.before.before.args.text.now in
-    let e = space-here text l.i p4.loop-test.true c.before.before.if1.false c.if2.true in
+    let p4 = c in
+    let l = p4.loop-i in
+    let text = p4.args.text.now in
+    let e = space-here text l.i p4.loop-i-test.true c.if-text-i-eq10.false c.if-text-i-eq32.true in
     omega (arith, l.invariant, e)
 
-loop-again : tie.Need-loop-preserved invariant-loop decreases-loop
+loop-again : tie.Need-loop-i-preserved invariant-loop decreases-loop
 loop-again c =
-    let p4 = c.before.before.before.before in
-    let l = p4.before.loop in
-    let text = p4.before.before.args.text.now in
-    let e = space-later text l.i p4.loop-test.true c.before.before.if1.false c.if2.false in
+    let p4 = c in
+    let l = p4.loop-i in
+    let text = p4.args.text.now in
+    let e = space-later text l.i p4.loop-i-test.true c.if-text-i-eq10.false c.if-text-i-eq32.false in
     omega (arith, l.invariant, e)
 
-returns-3 : tie.Need-returns-3 invariant-loop decreases-loop
+returns-3 : tie.Need-returns invariant-loop decreases-loop
 returns-3 c =
-    let l = c.before.loop in
-    let e = no_second c.before.before.args.text.now l.i c.loop-test.false in
+    let l = c.loop-i in
+    let e = no_second c.args.text.now l.i c.loop-i-test.false in
     omega (arith, l.invariant, e)
 
 pub second_spec : {M : Type 1} → statement M

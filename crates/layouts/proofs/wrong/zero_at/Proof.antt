@@ -6,8 +6,8 @@ use Rattle.layouts.proofs.wrong.zero_at.Tie as tie
 
 returns : tie.Need-returns
 returns c =
-    let p2 = c.before.before in
-    zeros _ _ p2.before.numbers-at.ensures p2.zero-led.ensures c.before.second.ensures c.zero-led2.ensures
+    let p2 = c in
+    zeros _ _ p2.numbers_at-first.ensures p2.zero_led.ensures c.second.ensures c.zero_led-2.ensures
 
 pub zero_at_spec : {M : Type 1} → statement M
 zero_at_spec =

@@ -8,7 +8,7 @@ use Rattle.picture_run.proofs.ending.emit.Tie as tie
 
 returns : tie.Need-returns
 returns c =
-    let p5 = c.before.before.before.before.before in
+    let p5 = c in
     c.write.ensures ∙ ap length (whole-hand p5.args.octets.now ∙ p5.requires)
 
 pub emit_spec : {M : Type 1} → statement M

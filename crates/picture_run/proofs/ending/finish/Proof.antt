@@ -5,35 +5,35 @@ use borrow.Author.Rules.{rules}
 use Rattle.picture_run.proofs.ending.finish.Statement.{statement}
 use Rattle.picture_run.proofs.ending.finish.Tie as tie
 
-returns : tie.Need-returns
+returns : tie.Need-returns-then-broken
 returns c =
-    let p7 = c.before.before.before.before.before.before.before in
+    let p7 = c in
     let a = p7.args in
     let i = image_of a.pixels.now a.numbers.now in
-    was_broken a.lines a.wanted a.stopped i a.images.now c.before.before.none.ensures c.before.broken.ensures
-    c.if1.true
+    was_broken a.lines a.wanted a.stopped i a.images.now c.none.ensures c.broken.ensures
+    c.if-broken.true
 
-returns-2 : tie.Need-returns-2
+returns-2 : tie.Need-returns-then-none_received
 returns-2 c =
-    let p3 = c.before.before.before in
-    let p4 = p3.before in
-    let p5 = p4.before in
-    let p10 = p5.before.before.before.before.before in
+    let p3 = c in
+    let p4 = p3 in
+    let p5 = p4 in
+    let p10 = p5 in
     let a = p10.args in
     let i = image_of a.pixels.now a.numbers.now in
-    had_none a.lines a.wanted a.stopped i a.images.now p5.none.ensures p4.broken.ensures p3.if1.false
-    c.before.before.none-received.ensures c.before.if2.true c.instead.ensures
+    had_none a.lines a.wanted a.stopped i a.images.now p5.none.ensures p4.broken.ensures p3.if-broken.false
+    c.none_received.ensures c.if-none_received.true c.instead.ensures
 
-returns-3 : tie.Need-returns-3
+returns-3 : tie.Need-returns
 returns-3 c =
-    let p3 = c.before.before.before in
-    let p4 = p3.before in
-    let p5 = p4.before in
-    let p10 = p5.before.before.before.before.before in
+    let p3 = c in
+    let p4 = p3 in
+    let p5 = p4 in
+    let p10 = p5 in
     let a = p10.args in
     let i = image_of a.pixels.now a.numbers.now in
-    had_some a.lines a.wanted a.stopped i a.images.now p5.none.ensures p4.broken.ensures p3.if1.false
-    c.before.before.none-received.ensures c.before.if2.false c.show.ensures
+    had_some a.lines a.wanted a.stopped i a.images.now p5.none.ensures p4.broken.ensures p3.if-broken.false
+    c.none_received.ensures c.if-none_received.false c.show-ended.ensures
 
 pub finish_spec : {M : Type 1} → statement M
 finish_spec =

@@ -7,8 +7,8 @@ use Rattle.picture_run.proofs.ending.instead.Tie as tie
 
 tell-requires : tie.Need-tell-requires
 tell-requires c κs =
-    let p3 = c.before.before.before in
-    c.part.ensures ∙ line-put (search rules) p3.line2.ensures
+    let p3 = c in
+    c.part.ensures ∙ line-put (search rules) p3.line-n.ensures
 
 returns : tie.Need-returns
 returns c = c.tell.ensures

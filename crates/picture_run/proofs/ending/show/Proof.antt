@@ -8,36 +8,36 @@ use borrow.Author.Rules.{rules}
 use Rattle.picture_run.proofs.ending.show.Statement.{statement}
 use Rattle.picture_run.proofs.ending.show.Tie as tie
 
-draw-requires : tie.Need-draw-requires
+draw-requires : tie.Need-draw-drawn-requires
 draw-requires c κs =
-    let p6 = c.before.before.before.before.before.before in
+    let p6 = c in
     record { whole = p6.requires; grey = search rules; text = search rules }
 
 emit-requires : tie.Need-emit-requires
 emit-requires c κs =
-    let p5 = c.before.before.before.before.before in
-    c.part.ensures ∙ p5.draw.ensures.text
+    let p5 = c in
+    c.part.ensures ∙ p5.draw-drawn.ensures.text
 
 emit-requires-2 : tie.Need-emit-requires-2
 emit-requires-2 c κs =
-    let p5 = c.before.before.before.before.before in
-    c.part2.ensures ∙ p5.draw.ensures.grey
+    let p5 = c in
+    c.part-2.ensures ∙ p5.draw-drawn.ensures.grey
 
-returns : tie.Need-returns
+returns : tie.Need-returns-then-lines
 returns c =
-    let c3 = c.before.before.before in
-    let c13 = c3.before.before.before.before.before.before.before.before.before.before in
+    let c3 = c in
+    let c13 = c3 in
     let a = c13.args in
     c.emit.ensures ∙ ap (λ (b : Bool). length (shown_of b (image_of a.pixels.now a.numbers.now)))
-    (sym c3.if1.true)
+    (sym c3.if-lines.true)
 
-returns-2 : tie.Need-returns-2
+returns-2 : tie.Need-returns
 returns-2 c =
-    let c3 = c.before.before.before in
-    let c13 = c3.before.before.before.before.before.before.before.before.before.before in
+    let c3 = c in
+    let c13 = c3 in
     let a = c13.args in
-    c.emit2.ensures ∙ ap (λ (b : Bool). length (shown_of b (image_of a.pixels.now a.numbers.now)))
-    (sym c3.if1.false)
+    c.emit-2.ensures ∙ ap (λ (b : Bool). length (shown_of b (image_of a.pixels.now a.numbers.now)))
+    (sym c3.if-lines.false)
 
 pub show_spec : {M : Type 1} → statement M
 show_spec =

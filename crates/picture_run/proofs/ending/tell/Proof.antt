@@ -7,7 +7,7 @@ use Rattle.picture_run.proofs.ending.tell.Tie as tie
 
 returns : tie.Need-returns
 returns c =
-    let p4 = c.before.before.before.before in
+    let p4 = c in
     ap length p4.requires
 
 pub tell_spec : {M : Type 1} → statement M

@@ -5,21 +5,21 @@ use Rattle.rawbits.proofs.Steps.{one_passes, zero-passes, flag-ends}
 use Rattle.rawbits.proofs.Reader.bit.Statement.{statement}
 use Rattle.rawbits.proofs.Reader.bit.Tie as tie
 
-returns : tie.Need-returns
+returns : tie.Need-returns-then-bit
 returns c =
-    let t = c.before.before.before.before.if1.true in
-    one_passes _ _ _ (c.before.before.one.ensures ∙ ap (after _) (sym t)) t
+    let t = c.if-bit.true in
+    one_passes _ _ _ (c.one-reader.ensures ∙ ap (after _) (sym t)) t
 
-returns-2 : tie.Need-returns-2
+returns-2 : tie.Need-returns-then-self-eq6
 returns-2 c =
-    let m = c.before.before in
-    flag-ends _ _ _ m.before.before.if1.false m.if2.true c.before.closed.ensures c.begun.ensures
+    let m = c in
+    flag-ends _ _ _ m.if-bit.false m.if-self-eq6.true c.closed-told.ensures c.begun-reader.ensures
 
-returns-3 : tie.Need-returns-3
+returns-3 : tie.Need-returns
 returns-3 c =
-    let m = c.before.before.before.before in
-    let t = m.before.before.if1.false in
-    zero-passes _ _ _ (c.before.before.zero.ensures ∙ ap (after _) (sym t)) t m.if2.false
+    let m = c in
+    let t = m.if-bit.false in
+    zero-passes _ _ _ (c.zero-reader.ensures ∙ ap (after _) (sym t)) t m.if-self-eq6.false
 
 pub bit_spec : {M : Type 1} → statement M
 bit_spec =

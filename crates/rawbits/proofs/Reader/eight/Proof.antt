@@ -9,4 +9,4 @@ eight_spec =
     (tie.spec
     (λ c. search rules) (λ c. search rules) (λ c. search rules) (λ c. search rules) (λ c. search rules) (λ c. search rules)
     (λ c. search rules) (λ c. search rules) (λ c κs. search rules) (λ c. search rules) (λ c. search rules) (λ c. search rules)
-    (λ c. search rules) (λ c. let k = c.before.before.keep.ensures in eight_is _ _ _ k.0 k.1))
+    (λ c. search rules) (λ c. let k = c.keep-whole.ensures in eight_is _ _ _ k.0 k.1))

@@ -7,21 +7,21 @@ use Rattle.rawbits.proofs.Eights.{calm-begun, octet-at-once}
 use Rattle.rawbits.proofs.Reader.octet.Statement.{statement}
 use Rattle.rawbits.proofs.Reader.octet.Tie as tie
 
-add-if1 : tie.Need-overflow-add-if1
-add-if1 c = omega (arith, c.before.shared-slice-known2.given c.before.before.wide.result)
+add-if1 : tie.Need-overflow_add-self
+add-if1 c = omega (arith, c.shared_slice_known-2-1.given c.wide.result)
 
-eight-requires : tie.Need-eight-requires
+eight-requires : tie.Need-eight-reader-requires
 eight-requires c κs =
-    let m = c.before.before.before.before.before in
-    let a = m.before.before.before.args in
-    calm-begun (a.self.ones + lead (get_or a.eights.now m.wide.result 0)) a.self.row.begun c.before.if1.true
+    let m = c in
+    let a = m.args in
+    calm-begun (a.self.ones + lead (get_or a.eights.now m.wide.result 0)) a.self.row.begun c.if-self-entry.true
 
-returns : tie.Need-returns
+returns : tie.Need-returns-then-self-entry
 returns c =
-    let m = c.before.before.before.before in
-    let n = m.before.before.before.before in
-    octet-at-once _ _ _ _ n.before.before.before.requires (search rules) n.wide.ensures m.if1.true (search rules)
-    c.before.before.eight.ensures
+    let m = c in
+    let n = m in
+    octet-at-once _ _ _ _ n.requires (search rules) n.wide.ensures m.if-self-entry.true (search rules)
+    c.eight-reader.ensures
 
 pub octet_spec : {M : Type 1} → statement M
 octet_spec =

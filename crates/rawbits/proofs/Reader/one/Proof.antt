@@ -3,22 +3,22 @@ use Rattle.rawbits.proofs.Steps.{one_more, one-sixth, one-many}
 use Rattle.rawbits.proofs.Reader.one.Statement.{statement}
 use Rattle.rawbits.proofs.Reader.one.Tie as tie
 
-returns : tie.Need-returns
+returns : tie.Need-returns-then-self-lt5
 returns c =
-    let m = c.before.before.before.before.before in
-    one_more _ _ _ _ m.add.ensures.0 m.add.ensures.1 c.before.if1.true
+    let m = c in
+    one_more _ _ _ _ m.add-next.ensures.0 m.add-next.ensures.1 c.if-self-lt5.true
 
-returns-2 : tie.Need-returns-2
+returns-2 : tie.Need-returns-then-self-row
 returns-2 c =
-    let m = c.before.before.before.before in
-    let n = m.before.before.before.before in
-    one-sixth _ _ _ _ n.add.ensures.0 n.add.ensures.1 m.if1.false c.if2.true
+    let m = c in
+    let n = m in
+    one-sixth _ _ _ _ n.add-next.ensures.0 n.add-next.ensures.1 m.if-self-lt5.false c.if-self-row.true
 
-returns-3 : tie.Need-returns-3
+returns-3 : tie.Need-returns
 returns-3 c =
-    let m = c.before.before.before.before in
-    let n = m.before.before.before.before in
-    one-many _ _ _ _ n.add.ensures.0 n.add.ensures.1 m.if1.false c.if2.false
+    let m = c in
+    let n = m in
+    one-many _ _ _ _ n.add-next.ensures.0 n.add-next.ensures.1 m.if-self-lt5.false c.if-self-row.false
 
 pub one_spec : {M : Type 1} → statement M
 one_spec =

@@ -7,20 +7,20 @@ use Rattle.rawbits_writer.proofs.Counting.{start-ready, Measures, measures_first
 use Rattle.rawbits_writer.proofs.laying.measured.Statement.{statement}
 use Rattle.rawbits_writer.proofs.laying.measured.Tie as tie
 
-abbrev invariant-loop : tie.invariant-loop
+abbrev invariant-loop : tie.invariant-loop-i
 invariant-loop frame count₀ ones₀ i₀ count ones i = Measures frame count ones i
 
-abbrev decreases-loop : tie.decreases-loop
+abbrev decreases-loop : tie.decreases-loop-i
 decreases-loop frame count₀ ones₀ i₀ count ones i = length frame - i
 
-loop-holds : tie.Need-loop-init invariant-loop decreases-loop
+loop-holds : tie.Need-loop-i-init invariant-loop decreases-loop
 loop-holds c = measures_first _
 
-add-count : tie.Need-overflow-add-count invariant-loop decreases-loop
+add-count : tie.Need-overflow_add-count invariant-loop decreases-loop
 add-count c =
-    let k = c.before.before.before.before.before in
-    let m : c.before.octet.result.bits ≤ 16 = search (measures_few, rules) in
-    record { fits = omega (arith, k.loop.invariant.few, k.loop.invariant.inside, k.before.before.requires) }
+    let k = c in
+    let m : c.octet-pen.result.bits ≤ 16 = search (measures_few, rules) in
+    record { fits = omega (arith, k.loop-i.invariant.few, k.loop-i.invariant.inside, k.requires) }
 
 pub measured_spec : {M : Type 1} → statement M
 measured_spec =

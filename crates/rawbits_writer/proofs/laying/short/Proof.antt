@@ -8,63 +8,63 @@ use Rattle.rawbits_writer.proofs.Counting.{counting_over, counting_next, countin
 use Rattle.rawbits_writer.proofs.laying.short.Statement.{statement}
 use Rattle.rawbits_writer.proofs.laying.short.Tie as tie
 
-abbrev invariant-loop : tie.invariant-loop
+abbrev invariant-loop : tie.invariant-loop-i
 invariant-loop octets lengths room left₀ part₀ at₀ i₀ left part at i = Counting octets lengths room left part at i
 
-abbrev decreases-loop : tie.decreases-loop
+abbrev decreases-loop : tie.decreases-loop-i
 decreases-loop octets lengths room left₀ part₀ at₀ i₀ left part at i = length lengths - i
 
-loop-holds : tie.Need-loop-init invariant-loop decreases-loop
+loop-holds : tie.Need-loop-i-init invariant-loop decreases-loop
 loop-holds c = search (counting_first, rules)
 
-cast-next : tie.Need-overflow-cast-next invariant-loop decreases-loop
-cast-next c = omega (arith, c.shared-slice-known3.given c.before.before.loop.i)
+cast-next : tie.Need-overflow_cast-next invariant-loop decreases-loop
+cast-next c = omega (arith, c.shared_slice_known-in-loop-i-1.given c.loop-i.i)
 
-add-next : tie.Need-overflow-add-next invariant-loop decreases-loop
+add-next : tie.Need-overflow_add-next invariant-loop decreases-loop
 add-next c =
-    let k = c.before in
+    let k = c in
     record {
       fits = omega (
         arith,
-        counting_fits k.before.loop.invariant k.before.before.before.before.before.requires
-            k.loop-test.true,
+        counting_fits k.loop-i.invariant k.requires
+            k.loop-i-test.true,
       );
     }
 
-sub-measured : tie.Need-overflow-sub-measured invariant-loop decreases-loop
+sub-measured : tie.Need-slice_bounds-measured-count invariant-loop decreases-loop
 sub-measured c = omega arith
 
-part-measured-start : tie.Need-slice-bounds-measured-start invariant-loop decreases-loop
+part-measured-start : tie.Need-slice_bounds-measured-start invariant-loop decreases-loop
 part-measured-start c = omega arith
 
-part-measured-end : tie.Need-slice-bounds-measured-end invariant-loop decreases-loop
+part-measured-end : tie.Need-slice_bounds-measured-end invariant-loop decreases-loop
 part-measured-end c =
-    let k = c.before in
-    omega (arith, counting_fits k.before.loop.invariant k.before.before.before.before.before.requires k.loop-test.true)
+    let k = c in
+    omega (arith, counting_fits k.loop-i.invariant k.requires k.loop-i-test.true)
 
-add-bits : tie.Need-overflow-add-bits invariant-loop decreases-loop
+add-bits : tie.Need-overflow_add-bits invariant-loop decreases-loop
 add-bits c =
-    let k = c.before.before.before in
-    let t = k.before.loop.invariant in
+    let k = c in
+    let t = k.loop-i.invariant in
     record {
       fits = omega (
         arith,
         t.few,
-        counting_few t k.loop-test.true c.measured.ensures
-            k.before.before.before.before.before.requires,
+        counting_few t k.loop-i-test.true c.measured.ensures
+            k.requires,
       );
     }
 
-add-bits-2 : tie.Need-overflow-add-bits-2 invariant-loop decreases-loop
+add-bits-2 : tie.Need-overflow_add-bits-in-loop-i invariant-loop decreases-loop
 add-bits-2 c =
-    let k = c.before.before.before in
-    let t = k.before.loop.invariant in
+    let k = c in
+    let t = k.loop-i.invariant in
     record {
       fits = omega (
         arith,
         t.few,
-        counting_few t k.loop-test.true c.measured.ensures
-            k.before.before.before.before.before.requires,
+        counting_few t k.loop-i-test.true c.measured.ensures
+            k.requires,
       );
     }
 

@@ -4,11 +4,11 @@ use borrow.Author.Rules.{rules}
 use Rattle.readings_turn.proofs.section.before_a_read.Statement.{statement}
 use Rattle.readings_turn.proofs.section.before_a_read.Tie as tie
 
-returns : tie.Need-returns
-returns c = enough-at-hand c.if1.true
+returns : tie.Need-returns-then-hand-ge-SECTION
+returns c = enough-at-hand c.if-hand-ge-SECTION.true
 
-returns-2 : tie.Need-returns-2
-returns-2 c = text-written c.before.if1.false c.written.ensures
+returns-2 : tie.Need-returns
+returns-2 c = text-written c.if-hand-ge-SECTION.false c.written.ensures
 
 pub before_a_read_spec : {M : Type 1} → statement M
 before_a_read_spec = tie.close

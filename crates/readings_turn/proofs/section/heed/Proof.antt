@@ -6,34 +6,34 @@ use borrow.Author.Rules.{rules}
 use Rattle.readings_turn.proofs.section.heed.Statement.{statement}
 use Rattle.readings_turn.proofs.section.heed.Tie as tie
 
-returns : tie.Need-returns
+returns : tie.Need-returns-in_default
 returns c =
-    let c14 = c.before.before.before.before.before.before.before.before.before.before.before.before.before.before in
+    let c14 = c in
     let a = c14.args in
     quiet-heeded (layouts_of a.text.now a.apids.now a.sids.now a.starts.now a.n a.codes.now a.froms.now
-    a.tos.now) a.pull c.match.keys2 (omega (arith, c14.well-formed.1.1.1.1.1.1.1.1.1.1.1.1.1.1.1))
+    a.tos.now) a.pull c.in_default.keys2 (omega (arith, c14.well-formed.1.1.1.1.1.1.1.1.1.1.1.1.1.1.1))
 
-returns-2 : tie.Need-returns-2
+returns-2 : tie.Need-returns-in-Refused
 returns-2 c =
-    let c5 = c.before.before.before.before.before in
-    let c8 = c5.before.before.before in
-    let c22 = c8.before.before.before.before.before.before.before.before.before.before.before.before.before.before in
-    let c23 = c22.before in
+    let c5 = c in
+    let c8 = c5 in
+    let c22 = c8 in
+    let c23 = c22 in
     let a = c23.args in
     refused-heeded (layouts_of a.text.now a.apids.now a.sids.now a.starts.now a.n a.codes.now a.froms.now
-    a.tos.now) c8.pull.given.1 c5.answer.given.1 c.before.before.count.ensures
+    a.tos.now) c8.pull-1.given.1 c5.answer-1.given.1 c.count.ensures
     (omega (arith, c23.well-formed.1.1.1.1.1.1.1.1.1.1.1.1.1.1.1))
 
-returns-3 : tie.Need-returns-3
+returns-3 : tie.Need-returns-in-Accepted
 returns-3 c =
-    let c4 = c.before.before.before.before in
-    let c8 = c4.before.before.before.before in
-    let c11 = c8.before.before.before in
-    let c25 = c11.before.before.before.before.before.before.before.before.before.before.before.before.before.before in
-    let c26 = c25.before in
+    let c4 = c in
+    let c8 = c4 in
+    let c11 = c8 in
+    let c25 = c11 in
+    let c26 = c25 in
     let a = c26.args in
     accepted-heeded (layouts_of a.text.now a.apids.now a.sids.now a.starts.now a.n a.codes.now a.froms.now
-    a.tos.now) c11.pull.given.1 c8.answer2.given.1 c4.frame.ensures
+    a.tos.now) c11.pull-1.given.1 c8.answer-in-Accepted-1.given.1 c4.frame.ensures
 
 pub heed_spec : {M : Type 1} → statement M
 heed_spec =

@@ -3,11 +3,11 @@ use Rattle.readings_turn.proofs.Heeding.{bad-is, bad_not}
 use Rattle.readings_turn.proofs.section.is_bad.Statement.{statement}
 use Rattle.readings_turn.proofs.section.is_bad.Tie as tie
 
-returns : tie.Need-returns
-returns c = bad-is c.before.args.pull c.match.keys1
+returns : tie.Need-returns-in-Bad
+returns c = bad-is c.args.pull c.in-Bad.keys1
 
-returns-2 : tie.Need-returns-2
-returns-2 c = bad_not c.before.args.pull c.match.keys2
+returns-2 : tie.Need-returns-in_default
+returns-2 c = bad_not c.args.pull c.in_default.keys2
 
 pub is_bad_spec : {M : Type 1} → statement M
 is_bad_spec = tie.close (tie.spec returns returns-2)

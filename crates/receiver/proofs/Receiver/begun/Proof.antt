@@ -7,8 +7,8 @@ use Rattle.receiver.proofs.Receiver.begun.Tie as tie
 
 returns : tie.Need-returns
 returns c = record {
-  receiver = fresh-is _ refl c.before.«open».ensures.session;
-  answers = c.before.«open».ensures.answers;
+  receiver = fresh-is _ refl c.open-opened.ensures.session;
+  answers = c.open-opened.ensures.answers;
 }
 
 pub begun_spec : {M : Type 1} → statement M

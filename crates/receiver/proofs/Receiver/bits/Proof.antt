@@ -5,7 +5,7 @@ use Rattle.receiver.proofs.Receiver.bits.Statement.{statement}
 use Rattle.receiver.proofs.Receiver.bits.Tie as tie
 
 returns : tie.Need-returns
-returns c = of_source c.before.bits.ensures c.begun.ensures
+returns c = of_source c.bits.ensures c.begun.ensures
 
 pub bits_spec : {M : Type 1} → statement M
 bits_spec = tie.close (tie.spec (λ c κs. search rules) (λ c κs. search rules) returns)

@@ -5,7 +5,7 @@ use Rattle.receiver.proofs.Receiver.kiss.Statement.{statement}
 use Rattle.receiver.proofs.Receiver.kiss.Tie as tie
 
 returns : tie.Need-returns
-returns c = of_source c.before.kiss.ensures c.begun.ensures
+returns c = of_source c.kiss.ensures c.begun.ensures
 
 pub kiss_spec : {M : Type 1} → statement M
 kiss_spec = tie.close (tie.spec (λ c κs. search rules) (λ c κs. search rules) returns)

@@ -5,7 +5,7 @@ use Rattle.receiver.proofs.Receiver.recording.Statement.{statement}
 use Rattle.receiver.proofs.Receiver.recording.Tie as tie
 
 returns : tie.Need-returns
-returns c = fresh-is 0 c.before.before.recording.ensures c.before.«open».ensures.session
+returns c = fresh-is 0 c.recording-source.ensures c.open-opened.ensures.session
 
 pub recording_spec : {M : Type 1} → statement M
 recording_spec = tie.close (tie.spec (λ c κs. search rules) (λ c κs. search rules) returns)

@@ -6,29 +6,29 @@ use borrow.Author.Rules.{rules}
 use Rattle.recording.proofs.Reader.frames.Statement.{statement}
 use Rattle.recording.proofs.Reader.frames.Tie as tie
 
-returns : tie.Need-returns
-returns c = scan-empty _ _ c.before.before.if1.true c.before.if2.true c.waits.ensures
+returns : tie.Need-returns-then-window-eq0
+returns c = scan-empty _ _ c.if-left-eq0.true c.if-window-eq0.true c.waits.ensures
 
-returns-2 : tie.Need-returns-2
-returns-2 c = scan-more _ _ c.before.before.if1.true c.before.if2.false c.stopped.ensures
+returns-2 : tie.Need-returns-then-left-eq0
+returns-2 c = scan-more _ _ c.if-left-eq0.true c.if-window-eq0.false c.stopped.ensures
 
-add-to : tie.Need-overflow-add-to
-add-to c = omega (arith, small-frame _ c.before.n2.given.1 c.before.before.before.frame.ensures)
+add-to : tie.Need-overflow_add-to
+add-to c = omega (arith, small-frame _ c.n-in-Whole-1.given.1 c.frame.ensures)
 
-returns-3 : tie.Need-returns-3
+returns-3 : tie.Need-returns-in-Missing
 returns-3 c =
-    let m = c.before.before.before.before in
-    told-missing _ refl (m.frame.ensures ∙ still _ _ m.before.if1.false) c.before.before.n.given.1 c.waits2.ensures
+    let m = c in
+    told-missing _ refl (m.frame.ensures ∙ still _ _ m.if-left-eq0.false) c.n-1.given.1 c.waits-in-Missing.ensures
 
-returns-4 : tie.Need-returns-4
+returns-4 : tie.Need-returns-in-Bad
 returns-4 c =
-    let m = c.before.before.before in
-    told-bad _ refl (m.frame.ensures ∙ still _ _ m.before.if1.false) c.before.enum_told.given.1 c.stopped2.ensures
+    let m = c in
+    told-bad _ refl (m.frame.ensures ∙ still _ _ m.if-left-eq0.false) c.enum_told-1.given.1 c.stopped-in-Bad.ensures
 
-returns-5 : tie.Need-returns-5
+returns-5 : tie.Need-returns-in-Whole
 returns-5 c =
-    let m = c.before.before.before in
-    told-whole _ refl (m.frame.ensures ∙ still _ _ m.before.if1.false) c.before.n2.given.1
+    let m = c in
+    told-whole _ refl (m.frame.ensures ∙ still _ _ m.if-left-eq0.false) c.n-in-Whole-1.given.1
 
 pub frames_spec : {M : Type 1} → statement M
 frames_spec =

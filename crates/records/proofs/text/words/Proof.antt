@@ -3,10 +3,10 @@ use Rattle.std.proofs.Common.{◌-◌, length, rules}
 use Rattle.records.proofs.text.words.Statement.{statement}
 use Rattle.records.proofs.text.words.Tie as tie
 
-abbrev invariant-loop : tie.invariant-loop
+abbrev invariant-loop : tie.invariant-loop-i
 invariant-loop name s x i₀ t5 i = Unit {0}
 
-abbrev decreases-loop : tie.decreases-loop
+abbrev decreases-loop : tie.decreases-loop-i
 decreases-loop name s x i₀ t5 i = length s - i
 
 pub words_spec : {M : Type 1} → statement M

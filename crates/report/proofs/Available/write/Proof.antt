@@ -9,15 +9,15 @@ use Rattle.report.proofs.Available.write.Tie as tie
 
 returns : tie.Need-returns
 returns c =
-    let c6 = c.before.before.before.before.before.before in
-    let c7 = c6.before in
-    let c8 = c7.before in
-    let c12 = c8.before.before.before.before in
+    let c6 = c in
+    let c7 = c6 in
+    let c8 = c7 in
+    let c12 = c8 in
     let a = c12.args in
     reported a.packet (content.Available a.self) (a.first.now ∷ a.second.now ∷ [])
     (available-wrong a.packet a.self a.first.now a.second.now (c8.available.ensures a.packet refl refl))
-    (numbers-first a.first.now a.second.now c7.word-octets.ensures c6.four-octets.ensures refl)
-    c.before.before.write.ensures
+    (numbers-first a.first.now a.second.now c7.word_octets-image.ensures c6.four_octets-ticks.ensures refl)
+    c.write.ensures
 
 pub write_spec : {M : Type 1} → statement M
 write_spec =

@@ -9,16 +9,16 @@ use Rattle.report.proofs.Failure.write.Tie as tie
 
 returns : tie.Need-returns
 returns c =
-    let c8 = c.before.before.before.before.before.before.before.before in
-    let c9 = c8.before in
-    let c10 = c9.before in
-    let c11 = c10.before in
-    let c13 = c11.before.before in
+    let c8 = c in
+    let c9 = c8 in
+    let c10 = c9 in
+    let c11 = c10 in
+    let c13 = c11 in
     let a = c13.args in
     reported a.packet (content.Failure a.self) []
-    (failure-wrong a.packet a.self (c11.failure.ensures a.packet refl refl))
-    (numbers-first _ [] c10.word-octets.ensures c9.word-octets2.ensures c8.word-octets3.ensures)
-    c.before.before.write.ensures
+    (failure-wrong a.packet a.self (c11.failure-wrong.ensures a.packet refl refl))
+    (numbers-first _ [] c10.word_octets-id.ensures c9.word_octets-control.ensures c8.word_octets-code.ensures)
+    c.write.ensures
 
 pub write_spec : {M : Type 1} → statement M
 write_spec =

@@ -9,13 +9,13 @@ use Rattle.report.proofs.Housekeeping.write.Tie as tie
 
 returns : tie.Need-returns
 returns c =
-    let c8 = c.before.before.before.before.before.before.before.before in
-    let c11 = c8.before.before.before in
+    let c8 = c in
+    let c11 = c8 in
     let a = c11.args in
     reported a.packet (content.Housekeeping a.self) (a.rest.now ∷ [])
     (housekeeping-wrong a.packet a.self a.rest.now (c8.housekeeping.ensures a.packet refl refl))
     refl
-    c.before.before.write.ensures
+    c.write.ensures
 
 pub write_spec : {M : Type 1} → statement M
 write_spec =

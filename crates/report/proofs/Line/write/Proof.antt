@@ -9,14 +9,14 @@ use Rattle.report.proofs.Line.write.Tie as tie
 
 returns : tie.Need-returns
 returns c =
-    let c7 = c.before.before.before.before.before.before.before in
-    let c9 = c7.before.before in
-    let c12 = c9.before.before.before in
+    let c7 = c in
+    let c9 = c7 in
+    let c12 = c9 in
     let a = c12.args in
     reported a.packet (content.Line a.self) (a.pixels.now ∷ [])
-    (line-wrong a.packet a.self a.pixels.now (c9.image-line.ensures a.packet refl refl))
-    (numbers-first {b = a.self.line ∷ []} a.pixels.now [] c7.word-octets.ensures refl refl)
-    c.before.before.write.ensures
+    (line-wrong a.packet a.self a.pixels.now (c9.image_line.ensures a.packet refl refl))
+    (numbers-first {b = a.self.line ∷ []} a.pixels.now [] c7.word_octets-image.ensures refl refl)
+    c.write.ensures
 
 pub write_spec : {M : Type 1} → statement M
 write_spec =

@@ -5,13 +5,13 @@ use Rattle.report.proofs.Read.{packet-accepted, packet-refused}
 use Rattle.report.proofs.Report.read.Statement.{statement}
 use Rattle.report.proofs.Report.read.Tie as tie
 
-returns : tie.Need-returns
+returns : tie.Need-returns-in-Packet
 returns c =
-    let m = c.before.before in
-    c.read-content.ensures ∙ packet-accepted _ m.before.before.read.ensures m.p.given.1
+    let m = c in
+    c.read_content.ensures ∙ packet-accepted _ m.read.ensures m.p-1.given.1
 
-returns-2 : tie.Need-returns-2
-returns-2 c = packet-refused _ c.before.before.before.read.ensures c.before.n.given.1
+returns-2 : tie.Need-returns-in-Refused
+returns-2 c = packet-refused _ c.read.ensures c.n-1.given.1
 
 pub read_spec : {M : Type 1} → statement M
 read_spec =

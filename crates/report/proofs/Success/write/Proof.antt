@@ -9,15 +9,15 @@ use Rattle.report.proofs.Success.write.Tie as tie
 
 returns : tie.Need-returns
 returns c =
-    let c8 = c.before.before.before.before.before.before.before.before in
-    let c9 = c8.before in
-    let c10 = c9.before in
-    let c12 = c10.before.before in
+    let c8 = c in
+    let c9 = c8 in
+    let c10 = c9 in
+    let c12 = c10 in
     let a = c12.args in
     reported a.packet (content.Success a.self) []
-    (success-wrong a.packet a.self (c10.success.ensures a.packet refl refl))
-    (numbers-first [] [] c9.word-octets.ensures c8.word-octets2.ensures refl)
-    c.before.before.write.ensures
+    (success-wrong a.packet a.self (c10.success-wrong.ensures a.packet refl refl))
+    (numbers-first [] [] c9.word_octets-id.ensures c8.word_octets-control.ensures refl)
+    c.write.ensures
 
 pub write_spec : {M : Type 1} → statement M
 write_spec =

@@ -10,33 +10,33 @@ use Rattle.report.proofs.Search.{found_here, found-later}
 use Rattle.report.proofs.table.find.Statement.{statement}
 use Rattle.report.proofs.table.find.Tie as tie
 
-abbrev invariant-loop : tie.invariant-loop
+abbrev invariant-loop : tie.invariant-loop-i
 invariant-loop service subtype table i₀ i = (i ≤ 9) × (find_pair service subtype ≡ first service subtype (drop i pairs))
 
-abbrev decreases-loop : tie.decreases-loop
+abbrev decreases-loop : tie.decreases-loop-i
 decreases-loop service subtype table i₀ i = 9 - i
 
-loop-holds : tie.Need-loop-init invariant-loop decreases-loop
+loop-holds : tie.Need-loop-i-init invariant-loop decreases-loop
 unfolding find_pair
 loop-holds c = (omega arith, refl)
 
-returns : tie.Need-returns invariant-loop decreases-loop
+returns : tie.Need-returns-then-p-service invariant-loop decreases-loop
 returns c =
-    let k = c.before.before.before.before in
-    found_here _ _ pairs k.before.loop.i (pair 0 0 0 0) k.loop-test.true c.if1.true ∙ sym k.before.loop.invariant.1
+    let k = c in
+    found_here _ _ pairs k.loop-i.i (pair 0 0 0 0) k.loop-i-test.true c.if-p-service.true ∙ sym k.loop-i.invariant.1
 
-loop-again : tie.Need-loop-preserved invariant-loop decreases-loop
+loop-again : tie.Need-loop-i-preserved invariant-loop decreases-loop
 loop-again c =
-    let k = c.before.before.before.before in (
+    let k = c in (
       omega arith,
       rw add-one
-          (k.before.loop.invariant.1 ∙ sym (found-later _ _ pairs k.before.loop.i (pair 0 0 0 0) k.loop-test.true c.if1.false)),
+          (k.loop-i.invariant.1 ∙ sym (found-later _ _ pairs k.loop-i.i (pair 0 0 0 0) k.loop-i-test.true c.if-p-service.false)),
     )
 
-returns-2 : tie.Need-returns-2 invariant-loop decreases-loop
+returns-2 : tie.Need-returns invariant-loop decreases-loop
 returns-2 c =
-    let e : c.before.loop.i ≡ 9 = omega arith in
-    sym (rw e at c.before.loop.invariant.1)
+    let e : c.loop-i.i ≡ 9 = omega arith in
+    sym (rw e at c.loop-i.invariant.1)
 
 pub find_spec : {M : Type 1} → statement M
 find_spec =

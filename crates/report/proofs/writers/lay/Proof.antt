@@ -7,12 +7,12 @@ use Rattle.report.proofs.writers.lay.Tie as tie
 
 returns : tie.Need-returns
 returns c =
-    let c4 = c.before.before.before.before in
-    let m = c4.before.before.before in
-    let k = m.before.before.before.before.before.before.before.before.before in
+    let c4 = c in
+    let m = c4 in
+    let k = m in
     let a = k.args in
     four-laid a.a.now a.b.now a.c.now a.d.now _ refl k.requires
-    m.before.before.before.put.ensures m.put2.ensures c4.put3.ensures c.before.put4.ensures
+    m.put.ensures m.put-2.ensures c4.put-3.ensures c.put-4.ensures
 
 pub lay_spec : {M : Type 1} → statement M
 lay_spec =

@@ -3,7 +3,7 @@ use Rattle.sender.proofs.laying.frame.Statement.{statement}
 use Rattle.sender.proofs.laying.frame.Tie as tie
 
 returns : tie.Need-returns
-returns c = c.new.ensures ∙ simp c.before.pointer.ensures
+returns c = c.new.ensures ∙ simp c.pointer.ensures
 
 pub frame_spec : {M : Type 1} → statement M
 frame_spec = tie.close

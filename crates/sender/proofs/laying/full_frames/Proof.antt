@@ -3,7 +3,7 @@ use Rattle.std.proofs.Common.{rules}
 use Rattle.sender.proofs.laying.full_frames.Statement.{statement}
 use Rattle.sender.proofs.laying.full_frames.Tie as tie
 
-returns : tie.Need-returns
+returns : tie.Need-returns-then-n-eq0
 returns c = full-none _ _ (search rules)
 
 pub full_frames_spec : {M : Type 1} → statement M

@@ -6,11 +6,11 @@ use Rattle.session.proofs.Channel.holding.Tie as tie
 
 returns : tie.Need-returns
 returns c =
-    let c5 = c.before.before.before.before.before in
-    let s = c5.before.before.before.before in
+    let c5 = c in
+    let s = c5 in
     let a = s.args in
-    keeps a.count a.instep a.first a.front.now a.back.now s.requires c5.put.ensures c.before.before.put2.ensures
-    c.begun.ensures
+    keeps a.count a.instep a.first a.front.now a.back.now s.requires c5.put.ensures c.put-2.ensures
+    c.begun-begun.ensures
 
 pub holding_spec : {M : Type 1} → statement M
 holding_spec =

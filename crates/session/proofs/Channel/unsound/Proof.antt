@@ -5,21 +5,21 @@ use Rattle.session.proofs.Soundness.{none-wrong, wrong-at-once, few-right, lengt
 use Rattle.session.proofs.Channel.unsound.Statement.{statement}
 use Rattle.session.proofs.Channel.unsound.Tie as tie
 
-returns : tie.Need-returns
-returns c = sym (none-wrong _ _ _ c.if1.true)
+returns : tie.Need-returns-then-n-eq0
+returns c = sym (none-wrong _ _ _ c.if-n-eq0.true)
 
-returns-2 : tie.Need-returns-2
-returns-2 c = sym (wrong-at-once _ _ _ c.before.if1.false c.if2.true)
+returns-2 : tie.Need-returns-then-n-self
+returns-2 c = sym (wrong-at-once _ _ _ c.if-n-eq0.false c.if-n-self.true)
 
-returns-3 : tie.Need-returns-3
-returns-3 c = sym (few-right _ _ _ c.before.before.if1.false c.before.if2.false c.if3.true)
+returns-3 : tie.Need-returns-then-n-lt6
+returns-3 c = sym (few-right _ _ _ c.if-n-eq0.false c.if-n-self.false c.if-n-lt6.true)
 
-returns-4 : tie.Need-returns-4
+returns-4 : tie.Need-returns
 returns-4 c =
-    let c3 = c.before.before.before in
-    let c4 = c3.before in
-    let c5 = c4.before in
-    rw c.word.ensures (sym (length-wrong _ _ _ c5.if1.false c4.if2.false c3.if3.false))
+    let c3 = c in
+    let c4 = c3 in
+    let c5 = c4 in
+    rw c.word.ensures (sym (length-wrong _ _ _ c5.if-n-eq0.false c4.if-n-self.false c3.if-n-lt6.false))
 
 pub unsound_spec : {M : Type 1} → statement M
 unsound_spec =

@@ -6,18 +6,18 @@ use Rattle.session.specs.Open.{opening}
 use Rattle.session.proofs.Session.open.Statement.{statement}
 use Rattle.session.proofs.Session.open.Tie as tie
 
-returns : tie.Need-returns
+returns : tie.Need-returns-then-t-gt-TIME
 unfolding opening pick
 returns c = record {
-  session = simp (lt-ltb _ _ c.before.if1.true) c.fresh.ensures;
-  answers = simp (lt-ltb _ _ c.before.if1.true);
+  session = simp (lt-ltb _ _ c.if-t-gt-TIME.true) c.fresh-session.ensures;
+  answers = simp (lt-ltb _ _ c.if-t-gt-TIME.true);
 }
 
-returns-2 : tie.Need-returns-2
+returns-2 : tie.Need-returns
 unfolding opening pick
 returns-2 c = record {
-  session = simp (le-ltb _ _ c.before.if1.false) c.fresh2.ensures;
-  answers = simp (le-ltb _ _ c.before.if1.false);
+  session = simp (le-ltb _ _ c.if-t-gt-TIME.false) c.fresh-session-2.ensures;
+  answers = simp (le-ltb _ _ c.if-t-gt-TIME.false);
 }
 
 pub open_spec : {M : Type 1} → statement M

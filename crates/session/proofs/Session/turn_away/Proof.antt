@@ -7,33 +7,33 @@ use Rattle.session.proofs.Admitting.{admits, bars, passes, gives-plain}
 use Rattle.session.proofs.Session.turn_away.Statement.{statement}
 use Rattle.session.proofs.Session.turn_away.Tie as tie
 
-abbrev begun : tie.After-barred → tie.Start
+abbrev begun : tie.After-barred-bar → tie.Start
 begun c = c.before.before.before.before
 
 abbrev room : tie.Start → Lent
 room c = lent c.args.octets.now c.args.lengths.now c.args.firsts.now
 
-returns : tie.Need-returns
+returns : tie.Need-returns-then-bar-ne0
 unfolding turned_away
 returns c =
     let b = c.before.before in
     let s = begun b in
-    bars s.args.self (room s) b.barred.ensures c.before.if1.true c.plain.ensures _
+    bars s.args.self (room s) b.barred-bar.ensures c.if-bar-ne0.true c.plain.ensures _
 
-add-self : tie.Need-overflow-add-self
+add-self : tie.Need-overflow_add-self
 add-self c =
     let b = c.before.before in
     let s = begun b in
-    let n = (admits s.args.self (room s) (sym b.barred.ensures ∙ c.before.if1.false)).numbers in
+    let n = (admits s.args.self (room s) (sym b.barred-bar.ensures ∙ c.if-bar-ne0.false)).numbers in
     search rules
 
-returns-2 : tie.Need-returns-2
+returns-2 : tie.Need-returns-else-bar-ne0
 unfolding turned_away
 returns-2 c =
     let b = c.before.before.before in
     let s = begun b in
-    passes s.args.self (room s) b.barred.ensures c.before.before.if1.false _ _ _
-    (gives-plain (counted s.args.self) s.args.own c.plain2.ensures (room s))
+    passes s.args.self (room s) b.barred-bar.ensures c.if-bar-ne0.false _ _ _
+    (gives-plain (counted s.args.self) s.args.own c.plain-else-bar-ne0.ensures (room s))
 
 pub turn_away_spec : {M : Type 1} → statement M
 turn_away_spec =

@@ -9,42 +9,42 @@ use Rattle.session.proofs.Soundness.{length_mapped, unsound-time, unsound_channe
 use Rattle.session.proofs.Session.unsound.Statement.{statement}
 use Rattle.session.proofs.Session.unsound.Tie as tie
 
-abbrev invariant-loop : tie.invariant-loop
+abbrev invariant-loop : tie.invariant-loop-i
 invariant-loop self i₀ i = (i ≤ 8) × (unsound self ≡ any_unsound (drop i self.channels))
 
-abbrev decreases-loop : tie.decreases-loop
+abbrev decreases-loop : tie.decreases-loop-i
 decreases-loop self i₀ i = 8 - i
 
-returns : tie.Need-returns invariant-loop decreases-loop
-returns c = sym (unsound-time c.before.args.t1 c.if1.true)
+returns : tie.Need-returns-then-self-gt-TIME invariant-loop decreases-loop
+returns c = sym (unsound-time c.args.self c.if-self-gt-TIME.true)
 
-loop-holds : tie.Need-loop-init invariant-loop decreases-loop
-loop-holds c = (search rules, unsound_channels c.before.args.t1 c.if1.false)
+loop-holds : tie.Need-loop-i-init invariant-loop decreases-loop
+loop-holds c = (search rules, unsound_channels c.args.self c.if-self-gt-TIME.false)
 
-returns-2 : tie.Need-returns-2 invariant-loop decreases-loop
+returns-2 : tie.Need-returns-then-unsound invariant-loop decreases-loop
 returns-2 c =
-    let c4 = c.before.before.before.before in
-    let c6 = c4.before.before in
-    let s = c6.args.t1 in
+    let c4 = c in
+    let c6 = c4 in
+    let s = c6.args.self in
     let n : length s.channels ≡ 8 = search (rules, length_mapped) in
-    sym (c4.loop.invariant.1 ∙ any_here s.channels c4.loop.i _ (omega arith) (sym c.before.unsound.ensures ∙ c.if2.true))
+    sym (c4.loop-i.invariant.1 ∙ any_here s.channels c4.loop-i.i _ (omega arith) (sym c.unsound.ensures ∙ c.if-unsound.true))
 
-loop-again : tie.Need-loop-preserved invariant-loop decreases-loop
+loop-again : tie.Need-loop-i-preserved invariant-loop decreases-loop
 loop-again c =
-    let c4 = c.before.before.before.before in
-    let c6 = c4.before.before in
-    let s = c6.args.t1 in
+    let c4 = c in
+    let c6 = c4 in
+    let s = c6.args.self in
     let n : length s.channels ≡ 8 = search (rules, length_mapped) in (
       search rules,
-      c4.loop.invariant.1 ∙ any_next s.channels c4.loop.i _ (omega arith)
-          (sym c.before.unsound.ensures ∙ c.if2.false),
+      c4.loop-i.invariant.1 ∙ any_next s.channels c4.loop-i.i _ (omega arith)
+          (sym c.unsound.ensures ∙ c.if-unsound.false),
     )
 
-returns-3 : tie.Need-returns-3 invariant-loop decreases-loop
+returns-3 : tie.Need-returns invariant-loop decreases-loop
 returns-3 c =
-    let s = c.before.before.before.args.t1 in
+    let s = c.args.self in
     let n : length s.channels ≡ 8 = search (rules, length_mapped) in
-    sym (c.before.loop.invariant.1 ∙ any_end s.channels c.before.loop.i (omega arith))
+    sym (c.loop-i.invariant.1 ∙ any_end s.channels c.loop-i.i (omega arith))
 
 pub unsound_spec : {M : Type 1} → statement M
 unsound_spec =

@@ -17,70 +17,70 @@ use Rattle.session.proofs.channels.follow.Tie as tie
 begun : (c : tie.Start) → Begun c.args.held.now c.args.«data».now
 begun c = let a = c.args in to-fit a.instep a.first a.held.now a.head.arrival a.head.pointer a.«data».now _ c.requires
 
-holding-requires : tie.Need-holding-requires
+holding-requires : tie.Need-holding-channel-requires
 holding-requires c κs =
-    let a = c.before.before.before.before.before.before.before.before.before.args in
+    let a = c.args in
     let s = (begun c.before.before.before.before.before.before.before.before.before).short in
     let g : length a.held.now + 0 ≤ 250 = omega arith in
     g
 
-returns : tie.Need-returns
+returns : tie.Need-returns-then-head-eq-RAW_DATA
 returns c =
-    let c3 = c.before.before.before in
-    let c10 = c3.before.before.before.before.before.before.before in
+    let c3 = c in
+    let c10 = c3 in
     let a = c10.args in
     follows_raw a.instep a.first a.held.now a.head.arrival a.head.pointer a.«data».now a.head.count.0 _
-    c.holding.result
-    c3.if1.true c.holding.ensures
+    c.holding-channel.result
+    c3.if-head-eq-RAW_DATA.true c.holding-channel.ensures
 
 -- the test is the definition's
 tested : (i r s b : Bool) → r ≡ s → (i && r) ≡ b → (i && s) ≡ b
 tested i r s b e h = ap (λ (x : Bool). i && x) (sym e) ∙ h
 
-abbrev start : tie.Joined2 → tie.Start
+abbrev start : tie.Joined-instep-fits → tie.Start
 start c =
     let c11 = c.before.before.before.before.before.before.before.before.before.before.before in
     c11
 
 -- what rule 5 is given, whichever way it came
-abbrev Given : tie.Joined2 → Type 0
+abbrev Given : tie.Joined-instep-fits → Type 0
 Given c =
     let a = (start c).args in
     Parts a.instep a.first a.held.now a.head.arrival a.head.pointer a.«data».now
-    (lent a.octets.now a.lengths.now a.firsts.now) c.if2.k c.if2.dropped c.if2.from c.if2.at c.if2.on
+    (lent a.octets.now a.lengths.now a.firsts.now) c.if-instep-fits.k c.if-instep-fits.dropped c.if-instep-fits.from c.if-instep-fits.at c.if-instep-fits.on
 
-given : (c : tie.Joined2) → Given c
+given : (c : tie.Joined-instep-fits) → Given c
 given c =
-    let c3 = c.before.before.before in
-    let c4 = c3.before in
+    let c3 = c in
+    let c4 = c3 in
     let s = start c in
     let a = s.args in
     let t = c.before.fits2 in
-    let d = c.before.before.dropped.ensures in
-    let n = c4.if1.false in
+    let d = c.dropped-dropped.ensures in
+    let n = c4.if-head-eq-RAW_DATA.false in
     ⊎_elim
-    (λ w. parts_all a.instep a.first a.held.now a.head.arrival a.head.pointer a.«data».now _ s.pre c.if2.k
-    c.if2.dropped c.if2.from c.if2.at c.if2.on n
-    (tested a.instep t.result _ true t.ensures w.0.taken) w.2 w.1 (w.3 ∙ c3.begun.ensures) w.4 w.5)
+    (λ w. parts_all a.instep a.first a.held.now a.head.arrival a.head.pointer a.«data».now _ s.pre c.if-instep-fits.k
+    c.if-instep-fits.dropped c.if-instep-fits.from c.if-instep-fits.at c.if-instep-fits.on n
+    (tested a.instep t.result _ true t.ensures w.0.taken) w.2 w.1 (w.3 ∙ c3.begun-begun.ensures) w.4 w.5)
     (⊎_elim
-    (λ w. parts_none a.instep a.first a.held.now a.head.arrival a.head.pointer a.«data».now _ s.pre c.if2.k
-    c.if2.dropped c.if2.from c.if2.at c.if2.on n
+    (λ w. parts_none a.instep a.first a.held.now a.head.arrival a.head.pointer a.«data».now _ s.pre c.if-instep-fits.k
+    c.if-instep-fits.dropped c.if-instep-fits.from c.if-instep-fits.at c.if-instep-fits.on n
     (tested a.instep t.result _ false t.ensures w.0.left) w.4 (w.3 ∙ d) w.5 w.2.taken w.6 w.7)
-    (λ w. parts-entered a.instep a.first a.held.now a.head.arrival a.head.pointer a.«data».now _ s.pre c.if2.k
-    c.if2.dropped c.if2.from c.if2.at c.if2.on n
+    (λ w. parts-entered a.instep a.first a.held.now a.head.arrival a.head.pointer a.«data».now _ s.pre c.if-instep-fits.k
+    c.if-instep-fits.dropped c.if-instep-fits.from c.if-instep-fits.at c.if-instep-fits.on n
     (tested a.instep t.result _ false t.ensures w.0.left) w.5 (w.4 ∙ d) w.6 w.2.left w.7 w.8))
-    c.if2.branch
+    c.if-instep-fits.branch
 
-returns-2 : tie.Need-returns-2
+returns-2 : tie.Need-returns
 returns-2 c =
-    let c6 = c.before.before.before.before.before.before in
+    let c6 = c in
     let j = c6.before.before.before.before.before.before.before in
     let t = c6.take in
     let a = (start j).args in
     follows_taken a.head a.instep a.first a.held.now a.«data».now
     (lent a.octets.now a.lengths.now a.firsts.now)
     (lent t.new.1.1.1.1.1.1.0 t.new.1.1.1.1.1.1.1.0 t.new.1.1.1.1.1.1.1.1.0)
-    j.if2.k j.if2.dropped j.if2.from j.if2.at j.if2.on t.result (given j) t.ensures
+    j.if-instep-fits.k j.if-instep-fits.dropped j.if-instep-fits.from j.if-instep-fits.at j.if-instep-fits.on t.result (given j) t.ensures
 
 pub follow_spec : {M : Type 1} → statement M
 follow_spec =

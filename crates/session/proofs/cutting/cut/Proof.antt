@@ -9,67 +9,67 @@ use Rattle.session.proofs.Going.{Going, Turn, going_start, lengths-same, firsts_
 use Rattle.session.proofs.cutting.cut.Statement.{statement}
 use Rattle.session.proofs.cutting.cut.Tie as tie
 
-abbrev invariant-loop : tie.invariant-loop
+abbrev invariant-loop : tie.invariant-loop-at
 invariant-loop first arrival held «data» lengths₀ firsts₀ all from₀ packets₀ at₀ lengths firsts from packets at =
     Going first arrival held «data» lengths₀ firsts₀ lengths firsts from packets at
 
-abbrev decreases-loop : tie.decreases-loop
+abbrev decreases-loop : tie.decreases-loop-at
 decreases-loop first arrival held «data» lengths₀ firsts₀ all from₀ packets₀ at₀ lengths firsts from packets at = length held + length «data» - at
 
-abbrev start : tie.At-loop invariant-loop decreases-loop → tie.Start invariant-loop decreases-loop
+abbrev start : tie.At-loop-at invariant-loop decreases-loop → tie.Start invariant-loop decreases-loop
 start c = c.before.before.before.before.before
 
-loop-holds : tie.Need-loop-init invariant-loop decreases-loop
+loop-holds : tie.Need-loop-at-init invariant-loop decreases-loop
 loop-holds c =
-    let a = c.before.before.before.before.args in
+    let a = c.args in
     going_start a.first a.arrival a.held.now a.«data».now a.lengths.now a.firsts.now
 
 -- neither list has another length
-same : (c : tie.At-loop invariant-loop decreases-loop) → length c.loop.lengths ≡ length (start c).args.lengths.now
-same c = lengths-same _ _ _ _ _ _ _ _ _ _ _ c.loop.invariant
+same : (c : tie.At-loop-at invariant-loop decreases-loop) → length c.loop.lengths ≡ length (start c).args.lengths.now
+same c = lengths-same _ _ _ _ _ _ _ _ _ _ _ c.loop-at.invariant
 
-same_numbers : (c : tie.At-loop invariant-loop decreases-loop) → length c.loop.firsts ≡ length (start c).args.firsts.now
-same_numbers c = firsts_same _ _ _ _ _ _ _ _ _ _ _ c.loop.invariant
+same_numbers : (c : tie.At-loop-at invariant-loop decreases-loop) → length c.loop.firsts ≡ length (start c).args.firsts.now
+same_numbers c = firsts_same _ _ _ _ _ _ _ _ _ _ _ c.loop-at.invariant
 
-returns : tie.Need-returns invariant-loop decreases-loop
+returns : tie.Need-returns-then-n invariant-loop decreases-loop
 returns c =
-    let n = c.before.length_at in
-    stops-wrong _ _ _ _ _ _ _ _ _ _ _ c.before.before.before.loop.invariant n.result n.ensures (search rules) c.if1.true
+    let n = c.length_at-n in
+    stops-wrong _ _ _ _ _ _ _ _ _ _ _ c.loop-at.invariant n.result n.ensures (search rules) c.if-n.true
 
-returns-2 : tie.Need-returns-2 invariant-loop decreases-loop
+returns-2 : tie.Need-returns-then-all-at invariant-loop decreases-loop
 returns-2 c =
-    let c4 = c.before.before.before.before in
-    let n = c.before.before.length_at in
-    stops-part _ _ _ _ _ _ _ _ _ _ _ c4.loop.invariant n.result n.ensures (search rules) (within n.result c.before.if1.false)
-    c.if2.true
+    let c4 = c in
+    let n = c.length_at-n in
+    stops-part _ _ _ _ _ _ _ _ _ _ _ c4.loop-at.invariant n.result n.ensures (search rules) (within n.result c.if-n.false)
+    c.if-all-at.true
 
 -- what a turn knows
-abbrev Turns : tie.Else2 invariant-loop decreases-loop → Type 0
+abbrev Turns : tie.Else-all-at invariant-loop decreases-loop → Type 0
 Turns c =
     let c4 = c.before.before.before.before in
     let a = (start c4).args in
-    let l = c4.loop in
+    let l = c4.loop-at in
     Turn a.first a.arrival a.held.now a.«data».now a.lengths.now a.firsts.now l.lengths l.firsts l.from
-    l.packets l.at c.before.before.length_at.result
+    l.packets l.at c.length_at-n.result
 
-turns : (c : tie.Else2 invariant-loop decreases-loop) → Turns c
+turns : (c : tie.Else-all-at invariant-loop decreases-loop) → Turns c
 turns c =
     let c4 = c.before.before.before.before in
-    let n = c.before.before.length_at in
-    turn _ _ _ _ _ _ _ _ _ _ _ c4.loop.invariant n.result n.ensures (start c4).requires (within n.result c.before.if1.false)
-    c.if2.false
+    let n = c.length_at-n in
+    turn _ _ _ _ _ _ _ _ _ _ _ c4.loop-at.invariant n.result n.ensures (start c4).requires (within n.result c.if-n.false)
+    c.if-all-at.false
 
-returns-3 : tie.Need-returns-3 invariant-loop decreases-loop
-returns-3 c = stops-short _ _ _ _ _ _ _ _ _ _ _ c.before.loop.invariant (search rules)
+returns-3 : tie.Need-returns invariant-loop decreases-loop
+returns-3 c = stops-short _ _ _ _ _ _ _ _ _ _ _ c.loop-at.invariant (search rules)
 
 pub cut_spec : {M : Type 1} → statement M
 cut_spec =
     tie.close
     (tie.spec
     invariant-loop decreases-loop (λ c. search rules) loop-holds (λ c. c.loop.invariant.within) (λ c κs. search rules)
-    (λ c. omega (arith, c.before.before.before.loop.invariant.small)) (λ c. same c.before.before.before)
-    (λ c. same_numbers c.before.before.before) returns (λ c. c.before.before.before.loop.invariant.within)
-    (λ c. omega (arith, c.before.before.before.before.loop.invariant.small)) (λ c. same c.before.before.before.before)
+    (λ c. omega (arith, c.loop-at.invariant.small)) (λ c. same c.before.before.before)
+    (λ c. same_numbers c.before.before.before) returns (λ c. c.loop-at.invariant.within)
+    (λ c. omega (arith, c.loop-at.invariant.small)) (λ c. same c.before.before.before.before)
     (λ c. same_numbers c.before.before.before.before) returns-2
     (λ c. omega (arith, (turns c).greatest)) (λ c. omega (arith, (turns c).room)) (λ c. (turns c).room) (λ c. omega (arith, (turns c).numbers))
     (λ c. (turns c).numbers)

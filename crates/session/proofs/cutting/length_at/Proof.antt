@@ -5,7 +5,7 @@ use Rattle.session.proofs.cutting.length_at.Statement.{statement}
 use Rattle.session.proofs.cutting.length_at.Tie as tie
 
 returns : tie.Need-returns
-returns c = simp (get_or-drop, c.word.ensures, c.before.octet2.ensures, c.before.before.octet.ensures)
+returns c = simp (get_or-drop, c.word.ensures, c.octet-low.ensures, c.octet-high.ensures)
 
 pub length_at_spec : {M : Type 1} → statement M
 length_at_spec =

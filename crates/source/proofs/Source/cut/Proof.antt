@@ -8,10 +8,10 @@ use Rattle.source.specs.Found.{is_cut, cut_at}
 use Rattle.source.proofs.Source.cut.Statement.{statement}
 use Rattle.source.proofs.Source.cut.Tie as tie
 
-returns-3 : tie.Need-returns-3
+returns-3 : tie.Need-returns-in-Frames
 returns-3 c =
-    let c4 = c.before.before.before.before in
-    sym (ap cut_at c4.self.given.1 ∙ ap (λ (a : Reader). is_cut (state_of a [])) c.before.reader.given.1)
+    let c4 = c in
+    sym (ap cut_at c4.self-1.given.1 ∙ ap (λ (a : Reader). is_cut (state_of a [])) c.reader-1.given.1)
 
 pub cut_spec : {M : Type 1} → statement M
 cut_spec =

@@ -5,18 +5,18 @@ use Rattle.source.proofs.Streaming.{kiss_scans, bits-scans}
 use Rattle.source.proofs.Source.scan.Statement.{statement}
 use Rattle.source.proofs.Source.scan.Tie as tie
 
-returns : tie.Need-returns
-returns c = section-scans c.before.before.before.self.given.1 c.before.scan.ensures c.told.ensures
+returns : tie.Need-returns-in-Recording
+returns c = section-scans c.self-1.given.1 c.scan-scanned.ensures c.told-taken.ensures
 
-returns-2 : tie.Need-returns-2
+returns-2 : tie.Need-returns-in-Kiss
 returns-2 c =
-    let c5 = c.before.before.before.before.before in
-    kiss_scans c5.self2.given.1 c.before.before.scan2.ensures c.stream-told.ensures
+    let c5 = c in
+    kiss_scans c5.self-in-Kiss-1.given.1 c.scan-scanned-in-Kiss.ensures c.stream_told-taken.ensures
 
-returns-3 : tie.Need-returns-3
+returns-3 : tie.Need-returns-in-Bits
 returns-3 c =
-    let c5 = c.before.before.before.before.before in
-    bits-scans c5.self3.given.1 c.before.before.scan3.ensures c.stream-told2.ensures
+    let c5 = c in
+    bits-scans c5.self-in-Bits-1.given.1 c.scan-scanned-in-Bits.ensures c.stream_told-taken-in-Bits.ensures
 
 pub scan_spec : {M : Type 1} → statement M
 scan_spec =

@@ -8,15 +8,15 @@ use borrow.Author.Rules.{rules}
 use Rattle.summary_count.proofs.counters.add.Statement.{statement}
 use Rattle.summary_count.proofs.counters.add.Tie as tie
 
-returns : tie.Need-returns
+returns : tie.Need-returns-then-i-counts
 unfolding added
 returns c =
-    let c4 = c.before.before.before.before in
+    let c4 = c in
     ap (λ (x : ℕ). set c4.args.counts.now c4.args.i x) c.sum.ensures
 
-returns-2 : tie.Need-returns-2
+returns-2 : tie.Need-returns-else-i-counts
 unfolding added
-returns-2 c = sym (set_out _ _ _ c.if1.false)
+returns-2 c = sym (set_out _ _ _ c.if-i-counts.false)
 
 pub add_spec : {M : Type 1} → statement M
 add_spec =

@@ -5,14 +5,14 @@ use borrow.Author.Rules.{rules}
 use Rattle.summary_count.proofs.counters.judge.Statement.{statement}
 use Rattle.summary_count.proofs.counters.judge.Tie as tie
 
-returns : tie.Need-returns
+returns : tie.Need-returns-then-bad
 returns c =
-    let p2 = c.before.before in
-    let p4 = p2.before.before in
-    p2.leave.ensures ∙ picked _ _ _ p4.if1.true
+    let p2 = c in
+    let p4 = p2 in
+    p2.leave.ensures ∙ picked _ _ _ p4.if-bad.true
 
-returns-2 : tie.Need-returns-2
-returns-2 c = passed _ _ _ _ c.if1.false refl
+returns-2 : tie.Need-returns-else-bad
+returns-2 c = passed _ _ _ _ c.if-bad.false refl
 
 pub judge_spec : {M : Type 1} → statement M
 judge_spec =

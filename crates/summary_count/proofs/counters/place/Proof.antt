@@ -9,34 +9,34 @@ use borrow.Author.Rules.{rules}
 use Rattle.summary_count.proofs.counters.place.Statement.{statement}
 use Rattle.summary_count.proofs.counters.place.Tie as tie
 
-abbrev invariant-loop : tie.invariant-loop
+abbrev invariant-loop : tie.invariant-loop-i
 invariant-loop keys many key i₀ i = place_of key keys many ≡ i + place_of key (drop i keys) (drop i many)
 
-abbrev decreases-loop : tie.decreases-loop
+abbrev decreases-loop : tie.decreases-loop-i
 decreases-loop keys many key i₀ i = length keys - i
 
-returns : tie.Need-returns invariant-loop decreases-loop
+returns : tie.Need-returns-then-many-i invariant-loop decreases-loop
 returns c =
-    let l = c.before.before in
-    let a = l.before.args in
-    omega (arith, many-end a.key a.keys.now a.many.now l.loop.i (search rules) c.if1.true)
+    let l = c in
+    let a = l.args in
+    omega (arith, many-end a.key a.keys.now a.many.now l.loop-i.i (search rules) c.if-many-i.true)
 
-returns-2 : tie.Need-returns-2 invariant-loop decreases-loop
+returns-2 : tie.Need-returns-then-many-i-2 invariant-loop decreases-loop
 returns-2 c =
-    let l = c.before.before.before.before.before in
-    let a = l.before.args in
-    omega (arith, place_here a.key a.keys.now a.many.now l.loop.i (search rules) (search rules) c.if2.true)
+    let l = c in
+    let a = l.args in
+    omega (arith, place_here a.key a.keys.now a.many.now l.loop-i.i (search rules) (search rules) c.if-many-i-2.true)
 
-loop-again : tie.Need-loop-preserved invariant-loop decreases-loop
+loop-again : tie.Need-loop-i-preserved invariant-loop decreases-loop
 loop-again c =
-    let l = c.before.before.before.before.before in
-    let a = l.before.args in
-    omega (arith, place-on a.key a.keys.now a.many.now l.loop.i (search rules) (search rules) c.if2.false)
+    let l = c in
+    let a = l.args in
+    omega (arith, place-on a.key a.keys.now a.many.now l.loop-i.i (search rules) (search rules) c.if-many-i-2.false)
 
-returns-3 : tie.Need-returns-3 invariant-loop decreases-loop
+returns-3 : tie.Need-returns invariant-loop decreases-loop
 returns-3 c =
-    let a = c.before.before.args in
-    omega (arith, keys-end a.key a.keys.now a.many.now c.before.loop.i c.loop-test.false)
+    let a = c.args in
+    omega (arith, keys-end a.key a.keys.now a.many.now c.loop-i.i c.loop-i-test.false)
 
 pub place_spec : {M : Type 1} → statement M
 place_spec =

@@ -4,27 +4,27 @@ use borrow.Author.Rules.{rules}
 use Rattle.summary_count.proofs.images.line.Statement.{statement}
 use Rattle.summary_count.proofs.images.line.Tie as tie
 
-returns : tie.Need-returns
+returns : tie.Need-returns-in_default
 returns c =
-    let p2 = c.before.before in
-    let p5 = p2.before.before.before in
-    report-refused p5.args.counts.now p2.read.ensures c.enum_told.given.1
+    let p2 = c in
+    let p5 = p2 in
+    report-refused p5.args.counts.now p2.read.ensures c.enum_told-1.given.1
 
-returns-2 : tie.Need-returns-2
+returns-2 : tie.Need-returns-in_default-content
 returns-2 c =
-    let p2 = c.before.before in
-    let p4 = p2.before.before in
-    let p7 = p4.before.before.before in
-    other-brought p7.args.counts.now p4.read.ensures p2.report.given.1 c.match2.keys2
+    let p2 = c in
+    let p4 = p2 in
+    let p7 = p4 in
+    other-brought p7.args.counts.now p4.read.ensures p2.report-1.given.1 c.in_default-content.keys2
 
-returns-3 : tie.Need-returns-3
+returns-3 : tie.Need-returns
 returns-3 c =
-    let p2 = c.before.before in
-    let p5 = p2.before.before.before in
-    let p8 = p5.before.before.before in
-    let p10 = p8.before.before in
-    let p13 = p10.before.before.before in
-    line-brought p13.args.counts.now p10.read.ensures p8.report.given.1 p5.content.given.1 p2.note.ensures
+    let p2 = c in
+    let p5 = p2 in
+    let p8 = p5 in
+    let p10 = p8 in
+    let p13 = p10 in
+    line-brought p13.args.counts.now p10.read.ensures p8.report-1.given.1 p5.content-1.given.1 p2.note.ensures
 
 pub line_spec : {M : Type 1} → statement M
 line_spec =

@@ -4,10 +4,10 @@ use borrow.Author.Rules.{rules}
 use Rattle.summary_count.proofs.images.number.Statement.{statement}
 use Rattle.summary_count.proofs.images.number.Tie as tie
 
-returns-2 : tie.Need-returns-2
+returns-2 : tie.Need-returns
 returns-2 c =
-    let p1 = c.before in
-    past_end p1.args.counts.now p1.args.i c.if1.false
+    let p1 = c in
+    past_end p1.args.counts.now p1.args.i c.if-i-counts.false
 
 pub number_spec : {M : Type 1} → statement M
 number_spec =

@@ -4,10 +4,10 @@ use borrow.Author.Rules.{rules}
 use Rattle.summary_pen.proofs.forms.begin.Statement.{statement}
 use Rattle.summary_pen.proofs.forms.begin.Tie as tie
 
-returns : tie.Need-returns
+returns : tie.Need-returns-then-csv
 returns c = search (begin_csv, rules)
 
-returns-2 : tie.Need-returns-2
+returns-2 : tie.Need-returns
 returns-2 c = search (begin_text, rules)
 
 pub begin_spec : {M : Type 1} → statement M

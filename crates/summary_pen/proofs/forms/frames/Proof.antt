@@ -4,13 +4,13 @@ use borrow.Author.Rules.{rules}
 use Rattle.summary_pen.proofs.forms.frames.Statement.{statement}
 use Rattle.summary_pen.proofs.forms.frames.Tie as tie
 
-returns : tie.Need-returns
+returns : tie.Need-returns-then-all-eq0
 returns c = search (none_of_both, rules)
 
-returns-2 : tie.Need-returns-2
+returns-2 : tie.Need-returns-then-csv
 returns-2 c = search (frames_csv, rules)
 
-returns-3 : tie.Need-returns-3
+returns-3 : tie.Need-returns
 returns-3 c = search (frames-text, rules)
 
 pub frames_spec : {M : Type 1} → statement M

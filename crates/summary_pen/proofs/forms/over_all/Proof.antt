@@ -5,13 +5,13 @@ use borrow.Author.Rules.{rules}
 use Rattle.summary_pen.proofs.forms.over_all.Statement.{statement}
 use Rattle.summary_pen.proofs.forms.over_all.Tie as tie
 
-returns : tie.Need-returns
+returns : tie.Need-returns-then-accepted-eq0
 returns c = search (none_said, rules)
 
-returns-2 : tie.Need-returns-2
+returns-2 : tie.Need-returns-then-csv
 returns-2 c = search (over_all_csv, rules)
 
-returns-3 : tie.Need-returns-3
+returns-3 : tie.Need-returns
 returns-3 c = search (over-all-text, rules)
 
 pub over_all_spec : {M : Type 1} → statement M

@@ -4,10 +4,10 @@ use borrow.Author.Rules.{rules}
 use Rattle.summary_pen.proofs.forms.refusal.Statement.{statement}
 use Rattle.summary_pen.proofs.forms.refusal.Tie as tie
 
-returns : tie.Need-returns
+returns : tie.Need-returns-then-n-eq0
 returns c = search (none_said, rules)
 
-returns-2 : tie.Need-returns-2
+returns-2 : tie.Need-returns
 returns-2 c = search (any_said, rules)
 
 pub refusal_spec : {M : Type 1} → statement M

@@ -4,14 +4,14 @@ use Rattle.summary_pen.proofs.Saying.{skipped, written, left_out}
 use Rattle.summary_pen.proofs.pen.octet.Statement.{statement}
 use Rattle.summary_pen.proofs.pen.octet.Tie as tie
 
-returns : tie.Need-returns
-returns c = let a = c.before.before.before.args in skipped a.c a.out.now a.pen (search rules)
+returns : tie.Need-returns-then-pen-gt0
+returns c = let a = c.args in skipped a.c a.out.now a.pen (search rules)
 
-returns-2 : tie.Need-returns-2
-returns-2 c = let a = c.before.before.before.args in written a.c a.out.now a.pen (search rules) (search rules)
+returns-2 : tie.Need-returns-then-at-out
+returns-2 c = let a = c.args in written a.c a.out.now a.pen (search rules) (search rules)
 
-returns-3 : tie.Need-returns-3
-returns-3 c = let a = c.before.before.before.args in left_out a.c a.out.now a.pen (search rules) (search rules)
+returns-3 : tie.Need-returns
+returns-3 c = let a = c.args in left_out a.c a.out.now a.pen (search rules) (search rules)
 
 pub octet_spec : {M : Type 1} → statement M
 octet_spec =

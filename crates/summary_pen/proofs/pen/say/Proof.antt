@@ -8,26 +8,26 @@ use Rattle.summary_pen.proofs.Saying.{none, say_on, say_end}
 use Rattle.summary_pen.proofs.pen.say.Statement.{statement}
 use Rattle.summary_pen.proofs.pen.say.Tie as tie
 
-abbrev invariant-loop : tie.invariant-loop
+abbrev invariant-loop : tie.invariant-loop-i
 invariant-loop out₀ words pen₀ i₀ out pen i =
     (i ≤ length words) × (length out ≡ length out₀) × Says (take i words) (page out₀ pen₀) (page out pen)
 
-abbrev decreases-loop : tie.decreases-loop
+abbrev decreases-loop : tie.decreases-loop-i
 decreases-loop out₀ words pen₀ i₀ out pen i = length words - i
 
-loop-holds : tie.Need-loop-init invariant-loop decreases-loop
+loop-holds : tie.Need-loop-i-init invariant-loop decreases-loop
 loop-holds c = (search rules, search rules, none _)
 
-loop-again : tie.Need-loop-preserved invariant-loop decreases-loop
+loop-again : tie.Need-loop-i-preserved invariant-loop decreases-loop
 loop-again c =
-    let l = c.before.before.before.before.before.before.loop in
-    let a = c.before.before.before.before.before.before.before.before.before.args in
-    (search rules, search rules, say_on a.words.now l.i (search rules) l.invariant.2 c.before.before.octet.ensures)
+    let l = c.loop-i in
+    let a = c.args in
+    (search rules, search rules, say_on a.words.now l.i (search rules) l.invariant.2 c.octet-pen.ensures)
 
 returns : tie.Need-returns invariant-loop decreases-loop
 returns c =
-    let a = c.before.before.before.before.args in
-    say_end a.words.now c.before.loop.i (search rules) c.before.loop.invariant.2
+    let a = c.args in
+    say_end a.words.now c.loop-i.i (search rules) c.loop-i.invariant.2
 
 pub say_spec : {M : Type 1} → statement M
 say_spec =

@@ -7,7 +7,7 @@ use Rattle.summary_run.proofs.showing.emit.Tie as tie
 
 returns : tie.Need-returns
 returns c =
-    let p6 = c.before.before.before.before.before.before in
+    let p6 = c in
     c.write.ensures ∙ ap length p6.requires
 
 pub emit_spec : {M : Type 1} → statement M

@@ -14,28 +14,28 @@ use borrow.Author.Rules.{rules}
 use Rattle.summary_text.proofs.walks.apids.Statement.{statement}
 use Rattle.summary_text.proofs.walks.apids.Tie as tie
 
-abbrev invariant-loop : tie.invariant-loop
+abbrev invariant-loop : tie.invariant-loop-i
 invariant-loop out₀ csv counts pen₀ i₀ out pen i =
     (i ≤ 2048) × (length out ≡ length out₀) × Through 2048 (apid_at (form csv) counts) i (page out₀ pen₀) (page out pen)
 
-abbrev decreases-loop : tie.decreases-loop
+abbrev decreases-loop : tie.decreases-loop-i
 decreases-loop out₀ csv counts pen₀ i₀ out pen i = 2048 - i
 
-loop-holds : tie.Need-loop-init invariant-loop decreases-loop
+loop-holds : tie.Need-loop-i-init invariant-loop decreases-loop
 loop-holds c = (search rules, search rules, through_none _ _ _)
 
-loop-again : tie.Need-loop-preserved invariant-loop decreases-loop
+loop-again : tie.Need-loop-i-preserved invariant-loop decreases-loop
 loop-again c =
-    let k = c.before.before.before.before in
-    let l = k.before.before.before.loop in
-    let a = k.before.before.before.before.before.before.args in
+    let k = c in
+    let l = k.loop-i in
+    let a = k.args in
     let text : ℕ → ℕ → List ℕ = λ m n. if_any (saturated m n) ((form a.csv).apid l.i m n) in
-    let told = read-two text k.before.of.ensures k.of2.ensures c.before.before.apid.ensures in
+    let told = read-two text k.of-missing.ensures k.of-restarted.ensures c.apid-pen.ensures in
     (search rules, search rules, through_on _ _ l.i l.invariant.2 (search rules) told)
 
 returns : tie.Need-returns invariant-loop decreases-loop
 unfolding apid_texts
-returns c = through_all _ _ c.before.loop.i c.before.loop.invariant.2 (search rules)
+returns c = through_all _ _ c.loop-i.i c.loop-i.invariant.2 (search rules)
 
 pub apids_spec : {M : Type 1} → statement M
 apids_spec =

@@ -4,10 +4,10 @@ use borrow.Author.Rules.{rules}
 use Rattle.summary_text.proofs.walks.away.Statement.{statement}
 use Rattle.summary_text.proofs.walks.away.Tie as tie
 
-returns : tie.Need-returns
+returns : tie.Need-returns-then-csv
 returns c = search (away_csv, rules)
 
-returns-2 : tie.Need-returns-2
+returns-2 : tie.Need-returns
 returns-2 c = search (away-text, rules)
 
 pub away_spec : {M : Type 1} → statement M

@@ -12,27 +12,27 @@ use borrow.Author.Rules.{rules}
 use Rattle.summary_text.proofs.walks.refusals.Statement.{statement}
 use Rattle.summary_text.proofs.walks.refusals.Tie as tie
 
-abbrev invariant-loop : tie.invariant-loop
+abbrev invariant-loop : tie.invariant-loop-i
 invariant-loop out₀ counts from words others pen₀ i₀ out pen i =
     (i ≤ 65536) × (length out ≡ length out₀) × Through 65536 (refusal_at from (pair words others) counts) i (page out₀ pen₀) (page out pen)
 
-abbrev decreases-loop : tie.decreases-loop
+abbrev decreases-loop : tie.decreases-loop-i
 decreases-loop out₀ counts from words others pen₀ i₀ out pen i = 65536 - i
 
-loop-holds : tie.Need-loop-init invariant-loop decreases-loop
+loop-holds : tie.Need-loop-i-init invariant-loop decreases-loop
 loop-holds c = (search rules, search rules, through_none _ _ _)
 
-loop-again : tie.Need-loop-preserved invariant-loop decreases-loop
+loop-again : tie.Need-loop-i-preserved invariant-loop decreases-loop
 loop-again c =
-    let l = c.before.before.before.before.before.before.loop in
-    let a = c.before.before.before.before.before.before.before.before.before.before.before.args in
+    let l = c.loop-i in
+    let a = c.args in
     let text : ℕ → List ℕ = λ n. if_any n (pair a.words.now a.others.now l.i n) in
-    let told = reads (ap text c.before.before.before.before.of.ensures) c.before.before.refusal.ensures in
+    let told = reads (ap text c.of-n.ensures) c.refusal-pen.ensures in
     (search rules, search rules, through_on _ _ l.i l.invariant.2 (search rules) told)
 
 returns : tie.Need-returns invariant-loop decreases-loop
 unfolding refusals
-returns c = through_all _ _ c.before.loop.i c.before.loop.invariant.2 (search rules)
+returns c = through_all _ _ c.loop-i.i c.loop-i.invariant.2 (search rules)
 
 pub refusals_spec : {M : Type 1} → statement M
 refusals_spec =

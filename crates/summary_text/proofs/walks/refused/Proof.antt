@@ -4,10 +4,10 @@ use borrow.Author.Rules.{rules}
 use Rattle.summary_text.proofs.walks.refused.Statement.{statement}
 use Rattle.summary_text.proofs.walks.refused.Tie as tie
 
-returns : tie.Need-returns
+returns : tie.Need-returns-then-csv
 returns c = search (refused_csv, rules)
 
-returns-2 : tie.Need-returns-2
+returns-2 : tie.Need-returns
 returns-2 c = search (refused-text, rules)
 
 pub refused_spec : {M : Type 1} → statement M

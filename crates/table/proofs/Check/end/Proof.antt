@@ -4,26 +4,26 @@ use borrow.Author.Rules.{rules}
 use Rattle.table.proofs.Check.end.Statement.{statement}
 use Rattle.table.proofs.Check.end.Tie as tie
 
-returns : tie.Need-returns
-returns c = ends_not _ _ c.if1.true
+returns : tie.Need-returns-then-not-self
+returns c = ends_not _ _ c.if-not-self.true
 
-returns-2 : tie.Need-returns-2
-returns-2 c = ends-all _ _ c.before.before.if1.false c.if2.true
+returns-2 : tie.Need-returns-then-self
+returns-2 c = ends-all _ _ c.if-not-self.false c.if-self.true
 
-returns-3 : tie.Need-returns-3
-returns-3 c = ends-short _ _ c.before.before.before.if1.false c.before.if2.false c.if3.true
+returns-3 : tie.Need-returns-then-rows-lt-ROW
+returns-3 c = ends-short _ _ c.if-not-self.false c.if-self.false c.if-rows-lt-ROW.true
 
-returns-4 : tie.Need-returns-4
+returns-4 : tie.Need-returns-then-four_at-self
 returns-4 c =
-    let r = c.before.before.before in
-    let s = r.before.before in
-    ends-order _ _ s.before.before.if1.false s.if2.false r.before.if3.false r.four-at.ensures c.before.if4.true
+    let r = c in
+    let s = r in
+    ends-order _ _ s.if-not-self.false s.if-self.false r.if-rows-lt-ROW.false r.four_at.ensures c.if-four_at-self.true
 
-returns-5 : tie.Need-returns-5
+returns-5 : tie.Need-returns
 returns-5 c =
-    let r = c.before.before.before in
-    let s = r.before.before in
-    ends-none _ _ s.before.before.if1.false s.if2.false r.before.if3.false r.four-at.ensures c.before.if4.false
+    let r = c in
+    let s = r in
+    ends-none _ _ s.if-not-self.false s.if-self.false r.if-rows-lt-ROW.false r.four_at.ensures c.if-four_at-self.false
 
 pub end_spec : {M : Type 1} → statement M
 end_spec =

@@ -8,63 +8,63 @@ use borrow.Author.Rules.{rules}
 use Rattle.table.proofs.Check.look.Statement.{statement}
 use Rattle.table.proofs.Check.look.Tie as tie
 
-abbrev invariant-loop : tie.invariant-loop
+abbrev invariant-loop : tie.invariant-loop-check
 invariant-loop rows packet arrival check₀ at₀ accepted check at =
     (at ≤ length rows) × Stands check₀ rows (handed packet arrival) check at
 
-abbrev decreases-loop : tie.decreases-loop
+abbrev decreases-loop : tie.decreases-loop-check
 decreases-loop rows packet arrival check₀ at₀ accepted check at = length rows - at
 
-returns : tie.Need-returns invariant-loop decreases-loop
-returns c = looks_not _ _ _ c.if1.true
+returns : tie.Need-returns-then-not-check invariant-loop decreases-loop
+returns c = looks_not _ _ _ c.if-not-check.true
 
-loop-holds : tie.Need-loop-init invariant-loop decreases-loop
+loop-holds : tie.Need-loop-check-init invariant-loop decreases-loop
 loop-holds c = (search rules, refl)
 
-returns-2 : tie.Need-returns-2 invariant-loop decreases-loop
+returns-2 : tie.Need-returns-then-rows-at-lt-ROW invariant-loop decreases-loop
 returns-2 c =
-    let k = c.before.before.before in
-    starved _ _ _ k.before.before.if1.false k.loop.check k.loop.at k.loop.invariant.1 c.before.if2.true c.if3.true
+    let k = c in
+    starved _ _ _ k.if-not-check.false k.loop-check.check k.loop-check.at k.loop-check.invariant.1 c.loop-check-test.true c.if-rows-at-lt-ROW.true
 
-row-lent : tie.Need-four-at-requires invariant-loop decreases-loop
+row-lent : tie.Need-four_at-number-requires invariant-loop decreases-loop
 row-lent c κs = rw (lent-from _ _) (simp length-drop (search rules))
 
-returns-3 : tie.Need-returns-3 invariant-loop decreases-loop
+returns-3 : tie.Need-returns-then-check-number invariant-loop decreases-loop
 returns-3 c =
-    let f = c.before.before.before in
-    let k = f.before.before.before.before.before in
-    passes_on _ _ _ k.before.before.if1.false k.loop.check k.loop.at k.loop.invariant.1 f.before.before.before.if2.true
-    f.before.before.if3.false f.four-at.ensures c.before.if4.true
+    let f = c in
+    let k = f in
+    passes_on _ _ _ k.if-not-check.false k.loop-check.check k.loop-check.at k.loop-check.invariant.1 f.loop-check-test.true
+    f.if-rows-at-lt-ROW.false f.four_at-number.ensures c.if-check-number.true
 
-row-lent-2 : tie.Need-reason-requires invariant-loop decreases-loop
+row-lent-2 : tie.Need-reason-reason-requires invariant-loop decreases-loop
 row-lent-2 c κs =
-    let c9 = c.before.before.before.before.before.before.before.before.before in
-    (rw (lent-from _ _) (simp length-drop (search rules)), c9.accepted.ensures)
+    let c9 = c in
+    (rw (lent-from _ _) (simp length-drop (search rules)), c9.accepted-accepted.ensures)
 
-returns-4 : tie.Need-returns-4 invariant-loop decreases-loop
+returns-4 : tie.Need-returns-then-reason-ne0 invariant-loop decreases-loop
 returns-4 c =
-    let r = c.before.before in
-    let f = r.before.before.before.before in
-    let k = f.before.before.before.before.before in
-    stops _ _ _ k.before.before.if1.false k.loop.check k.loop.at k.loop.invariant.1 f.before.before.before.if2.true
-    f.before.before.if3.false f.four-at.ensures r.before.before.if4.false r.reason.ensures c.before.if5.true
+    let r = c in
+    let f = r in
+    let k = f in
+    stops _ _ _ k.if-not-check.false k.loop-check.check k.loop-check.at k.loop-check.invariant.1 f.loop-check-test.true
+    f.if-rows-at-lt-ROW.false f.four_at-number.ensures r.if-check-number.false r.reason-reason.ensures c.if-reason-ne0.true
 
-loop-again : tie.Need-loop-preserved invariant-loop decreases-loop
+loop-again : tie.Need-loop-check-preserved invariant-loop decreases-loop
 loop-again c =
-    let r = c.before.before in
-    let f = r.before.before.before.before in
-    let k = f.before.before.before.before.before in
-    let a = k.before.before.before.before.before.before.args in (
+    let r = c in
+    let f = r in
+    let k = f in
+    let a = k.args in (
       search rules,
-      again a.self a.rows.now (handed a.packet.now a.arrival) k.before.before.if1.false k.loop.check k.loop.at
-          k.loop.invariant.1 f.before.before.before.if2.true
-          f.before.before.if3.false f.four-at.ensures r.before.before.if4.false r.reason.ensures c.before.if5.false,
+      again a.self a.rows.now (handed a.packet.now a.arrival) k.if-not-check.false k.loop-check.check k.loop-check.at
+          k.loop-check.invariant.1 f.loop-check-test.true
+          f.if-rows-at-lt-ROW.false f.four_at-number.ensures r.if-check-number.false r.reason-reason.ensures c.if-reason-ne0.false,
     )
 
-returns-5 : tie.Need-returns-5 invariant-loop decreases-loop
+returns-5 : tie.Need-returns invariant-loop decreases-loop
 returns-5 c =
-    let k = c.before.before in
-    passes _ _ _ k.before.before.if1.false k.loop.check k.loop.at k.loop.invariant.1 c.if2.false
+    let k = c in
+    passes _ _ _ k.if-not-check.false k.loop-check.check k.loop-check.at k.loop-check.invariant.1 c.loop-check-test.false
 
 pub look_spec : {M : Type 1} → statement M
 look_spec =

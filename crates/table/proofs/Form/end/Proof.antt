@@ -7,43 +7,43 @@ use borrow.Author.Rules.{rules}
 use Rattle.table.proofs.Form.end.Statement.{statement}
 use Rattle.table.proofs.Form.end.Tie as tie
 
-badly-formed-requires : tie.Need-badly-formed-requires
+badly-formed-requires : tie.Need-badly_formed-requires
 badly-formed-requires c κs =
-    let l : length c.before.before.args.self.head ≡ 72 = search rules in
+    let l : length c.args.self.head ≡ 72 = search rules in
     omega (arith, l)
 
-returns : tie.Need-returns
-returns c = starts-refused _ (sym c.before.badly-formed.ensures ∙ c.if1.true)
+returns : tie.Need-returns-then-badly_formed
+returns c = starts-refused _ (sym c.badly_formed.ensures ∙ c.if-badly_formed.true)
 
-four-at-requires : tie.Need-four-at-requires
+four-at-requires : tie.Need-four_at-columns-requires
 four-at-requires c κs =
-    let l : length c.before.before.before.before.before.args.self.head ≡ 72 = search rules in
+    let l : length c.args.self.head ≡ 72 = search rules in
     omega (arith, l)
 
-four-at-requires-2 : tie.Need-four-at-requires-2
+four-at-requires-2 : tie.Need-four_at-rows-requires
 four-at-requires-2 c κs =
-    let b = c.before.before.before in
-    let l : length b.before.before.before.before.args.self.head ≡ 72 = search rules in
+    let b = c in
+    let l : length b.args.self.head ≡ 72 = search rules in
     omega (
       arith,
       l,
-      few b.before.before.before.before.args.self b.before.badly-formed.ensures b.if1.false
-          c.before.four-at.ensures,
+      few b.args.self b.badly_formed.ensures b.if-badly_formed.false
+          c.four_at-columns.ensures,
     )
 
-cast-check : tie.Need-overflow-cast-check
+cast-check : tie.Need-overflow_cast-check
 cast-check c =
-    let b = c.before.before.before.before in
+    let b = c in
     omega (
       arith,
-      few b.before.before.before.before.args.self b.before.badly-formed.ensures b.if1.false
-          c.before.before.four-at.ensures,
+      few b.args.self b.badly_formed.ensures b.if-badly_formed.false
+          c.four_at-columns.ensures,
     )
 
-returns-2 : tie.Need-returns-2
+returns-2 : tie.Need-returns
 returns-2 c =
-    let b = c.before.before.before.before in
-    starts _ b.before.badly-formed.ensures b.if1.false c.before.before.four-at.ensures c.four-at2.ensures
+    let b = c in
+    starts _ b.badly_formed.ensures b.if-badly_formed.false c.four_at-columns.ensures c.four_at-rows.ensures
 
 pub end_spec : {M : Type 1} → statement M
 end_spec =

@@ -7,14 +7,14 @@ use borrow.Author.Rules.{rules}
 use Rattle.table.proofs.Form.read.Statement.{statement}
 use Rattle.table.proofs.Form.read.Tie as tie
 
-piece-lent : tie.Need-slice-aggregate-put-2
+piece-lent : tie.Need-slice_bounds-put-end-2
 piece-lent c = sym (length-take-le _ _ (omega arith))
 
 returns : tie.Need-returns
 returns c =
-    let p = c.before.before.before in
-    let l = p.before.before.before.before in
-    grows _ _ l.before.lesser.ensures l.lesser2.ensures p.put.ensures c.before.lesser3.ensures c.lesser4.ensures
+    let p = c in
+    let l = p in
+    grows _ _ l.lesser-room.ensures l.lesser-n.ensures p.put.ensures c.lesser-before.ensures c.lesser.ensures
 
 pub read_spec : {M : Type 1} → statement M
 read_spec =

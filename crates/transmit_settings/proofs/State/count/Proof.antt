@@ -4,11 +4,11 @@ use Rattle.transmit_settings.proofs.Setting.{channel-count, no_channel_count}
 use Rattle.transmit_settings.proofs.State.count.Statement.{statement}
 use Rattle.transmit_settings.proofs.State.count.Tie as tie
 
-returns : tie.Need-returns
-returns c = channel-count c.before.before.before.before.args.t1 _ c.before.before.wide.ensures c.before.if1.true
+returns : tie.Need-returns-then-v-lt8
+returns c = channel-count c.args.self _ c.wide-v.ensures c.if-v-lt8.true
 
-returns-2 : tie.Need-returns-2
-returns-2 c = no_channel_count c.before.before.before.args.t1 _ c.before.wide.ensures c.if1.false
+returns-2 : tie.Need-returns
+returns-2 c = no_channel_count c.args.self _ c.wide-v.ensures c.if-v-lt8.false
 
 pub count_spec : {M : Type 1} → statement M
 count_spec = tie.close (tie.spec (λ c κs. search rules) (λ c. search rules) returns returns-2)

@@ -6,8 +6,8 @@ use Rattle.transmit_settings.proofs.State.sent.Tie as tie
 
 returns : tie.Need-returns
 returns c =
-    let a = c.before.before.before.before.before.args in
-    sent_is a.self a.s c.before.counted.result c.more.result c.before.counted.ensures c.more.ensures
+    let a = c.args in
+    sent_is a.self a.s c.counted-next.result c.more-next.result c.counted-next.ensures c.more-next.ensures
 
 pub sent_spec : {M : Type 1} → statement M
 sent_spec = tie.close (tie.spec (λ c κs. search rules) (λ c κs. search rules) returns)

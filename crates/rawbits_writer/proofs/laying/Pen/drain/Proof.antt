@@ -4,14 +4,14 @@ use Rattle.rawbits_writer.proofs.Writing.{Drains, drains_first, drains_here, dra
 use Rattle.rawbits_writer.proofs.laying.Pen.drain.Statement.{statement}
 use Rattle.rawbits_writer.proofs.laying.Pen.drain.Tie as tie
 
-abbrev invariant-loop : tie.invariant-loop
+abbrev invariant-loop : tie.invariant-loop-bits
 invariant-loop self out₀ held at₀ bits₀ out at bits = Drains self held out₀ out at bits
 
-abbrev decreases-loop : tie.decreases-loop
+abbrev decreases-loop : tie.decreases-loop-bits
 decreases-loop self out₀ held at₀ bits₀ out at bits = bits
 
-same_length : tie.Need-same-length invariant-loop decreases-loop
-same_length c = c.before.loop.invariant.same
+same_length : tie.Need-shape_of-out invariant-loop decreases-loop
+same_length c = c.loop-bits.invariant.same
 
 pub drain_spec : {M : Type 1} → statement M
 drain_spec =

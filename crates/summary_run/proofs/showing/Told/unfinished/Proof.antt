@@ -7,7 +7,7 @@ use Rattle.summary_run.proofs.showing.Told.unfinished.Tie as tie
 
 returns : tie.Need-returns
 returns c =
-    let p4 = c.before.before.before.before in
+    let p4 = c in
     ap (λ (b : Bool). not p4.args.self.page.whole || b) c.failed.ensures
 
 pub unfinished_spec : {M : Type 1} → statement M
