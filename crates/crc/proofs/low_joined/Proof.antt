@@ -14,12 +14,12 @@ pub low_joined_spec : {M : Type 1} → statement M
 low_joined_spec =
     tie.close
     (tie.spec
-    (λ c. omega arith) (λ c. omega arith) (λ c. Fits-8_64 (c.shared-slice-known.given _))
-    (λ c. omega arith) (λ c. omega arith) (λ c. Fits-8_64 (c.shared-slice-known2.given _))
-    (λ c. omega arith) (λ c. omega arith) (λ c. Fits-8_64 (c.shared-slice-known3.given _))
-    (λ c. omega arith) (λ c. omega arith) (λ c. Fits-8_64 (c.shared-slice-known4.given _))
-    (λ c. omega arith) (λ c. omega arith) (λ c. Fits-8_64 (c.shared-slice-known5.given _))
-    (λ c. omega arith) (λ c. omega arith) (λ c. Fits-8_64 (c.shared-slice-known6.given _))
-    (λ c. omega arith) (λ c. omega arith) (λ c. Fits-8_64 (c.shared-slice-known7.given _))
-    (λ c. omega arith) (λ c. Fits-8_64 (c.shared-slice-known8.given _))
+    (λ c. omega arith) (λ c. omega arith) (λ c. Fits-8_64 (c.shared_slice_known-1.given _))
+    (λ c. omega arith) (λ c. omega arith) (λ c. Fits-8_64 (c.shared_slice_known-2-1.given _))
+    (λ c. omega arith) (λ c. omega arith) (λ c. Fits-8_64 (c.shared_slice_known-3-1.given _))
+    (λ c. omega arith) (λ c. omega arith) (λ c. Fits-8_64 (c.shared_slice_known-4-1.given _))
+    (λ c. omega arith) (λ c. omega arith) (λ c. Fits-8_64 (c.shared_slice_known-5-1.given _))
+    (λ c. omega arith) (λ c. omega arith) (λ c. Fits-8_64 (c.shared_slice_known-6-1.given _))
+    (λ c. omega arith) (λ c. omega arith) (λ c. Fits-8_64 (c.shared_slice_known-7-1.given _))
+    (λ c. omega arith) (λ c. Fits-8_64 (c.shared_slice_known-8-1.given _))
     returns)

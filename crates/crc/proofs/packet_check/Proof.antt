@@ -29,7 +29,7 @@ unfolding right table_word
 loop-holds c = record { words = record { all = refl; words = refl }; passed = record { holds = holds-ones high_first } }
 
 octet : (c : Here) → get_or c.args.octets.now c.loop-i.i 0 < 256
-octet c = omega (arith, c.shared-slice-known.given c.loop-i.i)
+octet c = omega (arith, c.shared_slice_known-1.given c.loop-i.i)
 
 -- the place of each half in the table
 high : tie.Need-bounds-table-high invariant-loop decreases-loop

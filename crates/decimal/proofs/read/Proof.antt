@@ -47,4 +47,4 @@ read_spec =
     (tie.spec
     invariant-loop decreases-loop (λ c. begun _ _) (λ c. search rules) (λ c. search rules) (λ c. search rules) returns
     (λ c. search rules) (λ c. search rules) returns-2 (λ c. search rules) (λ c. search (facts, rules)) cast-n add-n returns-3
-    (λ c. search rules) (λ c. search rules) loop-again (λ c. text-ended _ _ _ _ _ c.loop-end.invariant c.loop-test.false))
+    (λ c. search rules) (λ c. search rules) loop-again (λ c. text-ended _ _ _ _ _ c.loop-end.invariant c.loop-end-test.false))

@@ -8,5 +8,5 @@ pub keep_spec : {M : Type 1} → statement M
 keep_spec =
     tie.close
     (tie.spec (λ c. search rules) (λ c. search rules) (λ c. search rules)
-    (λ c. (keep_one c.args.kept.now _ 0 c.if1.true, refl))
-    (λ c. keep_none c.args.kept.now _ _ c.if1.false))
+    (λ c. (keep_one c.args.kept.now _ 0 c.if-at-kept.true, refl))
+    (λ c. keep_none c.args.kept.now _ _ c.if-at-kept.false))

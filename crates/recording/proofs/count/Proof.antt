@@ -8,6 +8,6 @@ pub count_spec : {M : Type 1} → statement M
 count_spec =
     tie.close
     (tie.spec
-    (λ c. search rules) (λ c. count-short _ c.if1.true) (λ c. search rules) (λ c. search rules) (λ c. search rules) (λ c. search rules)
+    (λ c. search rules) (λ c. count-short _ c.if-n-lt4.true) (λ c. search rules) (λ c. search rules) (λ c. search rules) (λ c. search rules)
     (λ c κs. search rules) (λ c. search rules)
     (λ c. count-whole _ c.four.ensures c.if-n-lt4.false))

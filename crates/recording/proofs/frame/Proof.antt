@@ -21,5 +21,5 @@ pub frame_spec : {M : Type 1} → statement M
 frame_spec =
     tie.close
     (tie.spec
-    (λ c. search rules) (λ c. frame-short _ c.if1.true) (λ c. search rules) (λ c. search rules) (λ c κs. search rules)
+    (λ c. search rules) (λ c. frame-short _ c.if-n-lt2.true) (λ c. search rules) (λ c. search rules) (λ c κs. search rules)
     (λ c. search rules) returns-2 (λ c. search rules) (λ c. search rules) (λ c. search rules) returns-3 returns-4)

@@ -31,7 +31,7 @@ pub settings_spec : {M : Type 1} → statement M
 settings_spec =
     tie.close
     (tie.spec
-    (λ c. search rules) (λ c. settings-short _ c.if1.true) (λ c. search rules) (λ c. search rules) (λ c. search rules)
+    (λ c. search rules) (λ c. settings-short _ c.if-n-lt4.true) (λ c. search rules) (λ c. search rules) (λ c. search rules)
     (λ c. search rules)
     (λ c κs. search rules) returns-2 (λ c. search rules) returns-3 (λ c. search rules) returns-4
     (λ c. search rules) (λ c κs. search rules) returns-5)

@@ -8,5 +8,5 @@ pub passed_over_spec : {M : Type 1} → statement M
 passed_over_spec =
     tie.close
     (tie.spec
-    (λ c. empty-line c.args.line.now c.if1.true) (λ c. search rules)
+    (λ c. empty-line c.args.line.now c.if-line-eq0.true) (λ c. search rules)
     (λ c. first-sign c.args.line.now c.if-line-eq0.false))

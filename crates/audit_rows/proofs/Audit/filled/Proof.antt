@@ -57,4 +57,4 @@ filled_spec =
     (tie.spec
     invariant-loop decreases-loop (λ c κs. search rules) loop-holds (λ c κs. search rules) (λ c κs. search rules) (λ c κs. search rules)
     (λ c. search rules) returns loop-less loop-again
-    (λ c. search rules) (λ c. full-filled c.loop-here.invariant.2 (omega (arith, c.loop-here.invariant.1, c.loop-test.false))))
+    (λ c. search rules) (λ c. full-filled c.loop-here.invariant.2 (omega (arith, c.loop-here.invariant.1, c.loop-here-test.false))))

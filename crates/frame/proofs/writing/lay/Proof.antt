@@ -11,7 +11,7 @@ returns c =
     let front = «data».before.before.before.before in
     let start = front.before.before in
     let asked = start.requires in
-    steps _ _ _ _ _ asked.room asked.lent start.status.ensures front.lay-front.ensures «data».put.ensures
+    steps _ _ _ _ _ asked.room asked.lent start.status.ensures front.lay_front.ensures «data».put.ensures
     state.put-2.ensures time.put-3.ensures c.seal.ensures
 
 pub lay_spec : {M : Type 1} → statement M

@@ -47,7 +47,7 @@ joined : (c : tie.Joined-escaping invariant-loop decreases-loop)
     → let k = c.loop-i in
     let w = c.args.window.now in
     after (reader k.marked k.escaping k.wrong k.other k.count) k.auto (get_or w k.i 0)
-    ≡ taking (reader k.marked c.if3.escaping c.if3.wrong k.other k.count) k.auto c.if3.x
+    ≡ taking (reader k.marked c.if-escaping.escaping c.if-escaping.wrong k.other k.count) k.auto c.if-escaping.x
 joined c =
     ⊎_elim
     (λ w. after-escape _ _ _ w.0.taken w.1.ensures w.2.ensures w.3 w.4 w.5)

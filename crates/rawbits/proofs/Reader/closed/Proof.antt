@@ -25,5 +25,5 @@ pub closed_spec : {M : Type 1} → statement M
 closed_spec =
     tie.close
     (tie.spec
-    (λ c. closes_unseen _ _ c.if1.true) (λ c. closes_abandoned _ _ c.if-not-self.false c.if2.true)
+    (λ c. closes_unseen _ _ c.if-not-self.true) (λ c. closes_abandoned _ _ c.if-not-self.false c.if-abandoned.true)
     returns-3 returns-4 returns-5 returns-6)

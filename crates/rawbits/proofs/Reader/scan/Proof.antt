@@ -40,4 +40,4 @@ scan_spec =
     (tie.spec
     invariant-loop decreases-loop loop-holds (λ c. search rules) (λ c. search rules) (λ c κs. c.loop-i.invariant.0)
     (λ c. search rules) (λ c κs. search rules) returns
-    (λ c. search rules) loop-again (λ c. scans-end c.loop-i.invariant.1 c.loop-test.false))
+    (λ c. search rules) loop-again (λ c. scans-end c.loop-i.invariant.1 c.loop-i-test.false))

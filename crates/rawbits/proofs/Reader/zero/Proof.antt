@@ -9,4 +9,4 @@ returns-2 c =
     zero_more _ _ m.if-stuffed.false _ _ m.add-next.ensures.0 m.add-next.ensures.1
 
 pub zero_spec : {M : Type 1} → statement M
-zero_spec = tie.close (tie.spec (λ c. zero-stuffed _ _ c.if1.true) (λ c κs. search rules) (λ c. search rules) returns-2)
+zero_spec = tie.close (tie.spec (λ c. zero-stuffed _ _ c.if-stuffed.true) (λ c κs. search rules) (λ c. search rules) returns-2)

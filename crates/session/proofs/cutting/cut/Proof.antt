@@ -25,10 +25,10 @@ loop-holds c =
     going_start a.first a.arrival a.held.now a.«data».now a.lengths.now a.firsts.now
 
 -- neither list has another length
-same : (c : tie.At-loop-at invariant-loop decreases-loop) → length c.loop.lengths ≡ length (start c).args.lengths.now
+same : (c : tie.At-loop-at invariant-loop decreases-loop) → length c.loop-at.lengths ≡ length (start c).args.lengths.now
 same c = lengths-same _ _ _ _ _ _ _ _ _ _ _ c.loop-at.invariant
 
-same_numbers : (c : tie.At-loop-at invariant-loop decreases-loop) → length c.loop.firsts ≡ length (start c).args.firsts.now
+same_numbers : (c : tie.At-loop-at invariant-loop decreases-loop) → length c.loop-at.firsts ≡ length (start c).args.firsts.now
 same_numbers c = firsts_same _ _ _ _ _ _ _ _ _ _ _ c.loop-at.invariant
 
 returns : tie.Need-returns-then-n invariant-loop decreases-loop
@@ -66,7 +66,7 @@ pub cut_spec : {M : Type 1} → statement M
 cut_spec =
     tie.close
     (tie.spec
-    invariant-loop decreases-loop (λ c. search rules) loop-holds (λ c. c.loop.invariant.within) (λ c κs. search rules)
+    invariant-loop decreases-loop (λ c. search rules) loop-holds (λ c. c.loop-at.invariant.within) (λ c κs. search rules)
     (λ c. omega (arith, c.loop-at.invariant.small)) (λ c. same c.before.before.before)
     (λ c. same_numbers c.before.before.before) returns (λ c. c.loop-at.invariant.within)
     (λ c. omega (arith, c.loop-at.invariant.small)) (λ c. same c.before.before.before.before)
