@@ -36,7 +36,11 @@ high : tie.Need-bounds-table-high invariant-loop decreases-loop
 high c = shr_lt 4 12 (xor_lt 16 _ _ c.loop-i.invariant.passed.holds.fits (mod-lt _ (lit< tt)))
 
 low : tie.Need-bounds-table-low invariant-loop decreases-loop
-low c = shr_lt 4 12 (xor_lt 16 _ _ (word_fits c.loop-i.invariant.words _ (high c)) (mod-lt _ (lit< tt)))
+low c =
+    shr_lt 4 12
+    (xor_lt 16 _ _
+    (word_fits c.loop-i.invariant.words _ (shr_lt 4 12 (xor_lt 16 _ _ c.loop-i.invariant.passed.holds.fits (mod-lt _ (lit< tt)))))
+    (mod-lt _ (lit< tt)))
 
 loop-again : tie.Need-loop-i-preserved invariant-loop decreases-loop
 loop-again c = halves_more c.loop-i.invariant c.loop-i-test.true (octet c)
@@ -48,7 +52,7 @@ pub packet_check_spec : {M : Type 1} → statement M
 packet_check_spec =
     tie.close
     (tie.spec invariant-loop decreases-loop loop-holds
-    (λ c. omega arith) (λ c. omega (arith, octet c))
+    (λ c. omega arith) (λ c. omega (arith, c.shared_slice_known-1.given c.loop-i.i))
     (λ c. omega (arith, high c)) (λ c. omega (arith, high c)) high
     (λ c. omega (arith, low c)) (λ c. omega (arith, low c)) low
     (λ c. omega arith) (λ c. omega arith) loop-again returns)

@@ -39,7 +39,7 @@ loop-again : tie.Need-loop-i-preserved invariant-loop decreases-loop
 loop-again c =
     let n = c.lay-next in
     let l = c.loop-i in
-    (l.invariant.0, search rules, n.auto.0 ∙ l.invariant.2, one-number-more _ _ l.i (search rules) (search rules) l.invariant.3 n.ensures)
+    (l.invariant.0, search rules, n.auto.out ∙ l.invariant.2, one-number-more _ _ l.i (search rules) (search rules) l.invariant.3 n.ensures)
 
 returns-3 : tie.Need-returns invariant-loop decreases-loop
 returns-3 c =
