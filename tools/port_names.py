@@ -38,8 +38,8 @@ def own_path(path):
     parts = path.split(".")
     if parts[0] != "Rattle" or len(parts) < 3 or parts[1] not in CRATES or parts[2] not in ("specs", "proofs"):
         return False
-    if len(parts) > 3 and parts[3] in ("declared", "contracts"):
-        return False
+    if parts[2] == "specs":
+        return len(parts) < 4 or parts[3] not in ("declared", "contracts")
     return parts[-1] not in ("Tie", "Statement", "Kinds", "Reads", "Goals", "Given", "Lts", "Code", "TheVariants", "TheConstants")
 
 

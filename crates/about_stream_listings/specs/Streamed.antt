@@ -19,8 +19,8 @@ stream_listing t xs = header ++ items_text (opening t 0).session (map offers xs)
 -- Behind the header line what is to come from a receiver of a stream of which nothing is read yet is that of all that the stream holds,
 -- whether the input has ended or not: with listing's `PiecesAreListed`, in whatever pieces it comes.
 abbrev pub Lists : Source → (List ℕ → List Stretch) → Type 0
-Lists s stretchesIn = (t : ℕ) (kept octets : List ℕ) (ended : Bool) → length kept ≡ most_kept
-    → header ++ to_come (fresh_stream s t) kept octets ended ≡ stream_listing t (stretchesIn octets)
+Lists s stretches_in = (t : ℕ) (kept octets : List ℕ) (ended : Bool) → length kept ≡ most_kept
+    → header ++ to_come (fresh_stream s t) kept octets ended ≡ stream_listing t (stretches_in octets)
 
 abbrev pub ListsKiss : Type 0
 ListsKiss = Lists fresh_kiss kiss.stretches_in

@@ -9,7 +9,7 @@ use Rattle.window.specs.declared.Refilled.{Refilled}
 use Rattle.table.specs.Form.{known, grown}
 use Rattle.table.specs.declared.Form.{Form}
 use Rattle.table.proofs.Keeping.{keeps_on}
-use Rattle.audit_form.specs.Reads.{brought, Grows, Place, goingAt, GrowsAt, place, start, broughtBy, FormOfAll}
+use Rattle.audit_form.specs.Reads.{brought, Grows, Place, going_at, GrowsAt, place, start, brought_by, FormOfAll}
 use Rattle.audit_form.specs.declared.Reading.{Reading}
 
 -- one read
@@ -25,15 +25,15 @@ at-start {r = r} e d =
     ap (λ (x : Form). record { form = x; read = r; going = true }) e ∙ ap
     (λ (x : Refilled). record { form = known []; read = x; going = true }) d
 
-pub begun : {s : Reading} {buffer : List ℕ} {n : ℕ} {q : Place} → s ≡ start → Loops goingAt GrowsAt (place s buffer) n q
-    → Loops goingAt GrowsAt (place start buffer) n q
-begun {buffer = buffer} {n} {q} e l = subst (λ (s : Reading). Loops goingAt GrowsAt (place s buffer) n q) e l
+pub begun : {s : Reading} {buffer : List ℕ} {n : ℕ} {q : Place} → s ≡ start → Loops going_at GrowsAt (place s buffer) n q
+    → Loops going_at GrowsAt (place start buffer) n q
+begun {buffer = buffer} {n} {q} e l = subst (λ (s : Reading). Loops going_at GrowsAt (place s buffer) n q) e l
 
-all-kept : {p q : Place} {n : ℕ} {text : List ℕ} → p.reading.form ≡ known [] → (t : Turns goingAt GrowsAt p n text q)
-    → q.reading.form ≡ known (broughtBy t)
+all-kept : {p q : Place} {n : ℕ} {text : List ℕ} → p.reading.form ≡ known [] → (t : Turns going_at GrowsAt p n text q)
+    → q.reading.form ≡ known (brought_by t)
 all-kept e none = e
 all-kept e (more t g x) =
-    x.grows.grows ∙ ap (λ (f : Form). grown f x.grows.refills.piece) (all-kept e t) ∙ keeps_on (broughtBy t)
+    x.grows.grows ∙ ap (λ (f : Form). grown f x.grows.refills.piece) (all-kept e t) ∙ keeps_on (brought_by t)
     x.grows.refills.piece
 
 pub form_of_all : FormOfAll

@@ -12,7 +12,7 @@ use Rattle.table.specs.Table.{rows_from}
 use Rattle.table.specs.Form.{known, started}
 use Rattle.table.specs.declared.Verdict.{Verdict}
 use Rattle.table.specs.declared.Verdict.TheVariants.{Passes}
-use Rattle.audit_form.specs.Reads.{broughtBy}
+use Rattle.audit_form.specs.Reads.{brought_by}
 use Rattle.audit_form.specs.Reads.{Looped as ReadFirst}
 use Rattle.audit_form.specs.declared.Formed.{Formed}
 use Rattle.audit_line.specs.Text.{verdict_line}
@@ -40,7 +40,7 @@ pub record Readings (a : Receiver) (kept : List ℕ) : Type 0 where
 
 -- The octets of the table that the first reading brought, the octets of the input, and those of the table's rows that the second brought.
 abbrev pub first_read : {a : Receiver} {kept : List ℕ} → Readings a kept → List ℕ
-first_read c = broughtBy c.reads.made.turns
+first_read c = brought_by c.reads.made.turns
 
 abbrev pub input_read : {a : Receiver} {kept : List ℕ} → Readings a kept → List ℕ
 input_read c = input_of c.turns.made.turns

@@ -4,7 +4,7 @@ use mathlib.Core.Path.{◌≡◌, refl, ◌∙◌}
 use lib.ListN.{length}
 use Rattle.window.specs.Turns.{Made, most}
 use Rattle.window.proofs.Looping.{at_first, one_more, stopped, all_made}
-use Rattle.audit_form.specs.Reads.{goingAt, GrowsAt, place}
+use Rattle.audit_form.specs.Reads.{going_at, GrowsAt, place}
 use Rattle.audit_form.proofs.Forming.{at-start, begun}
 use native.Mathlib.Omega.{arith}
 use borrow.Author.Rules.{rules}
@@ -13,7 +13,7 @@ use Rattle.audit_form.proofs.form.Tie as tie
 
 abbrev invariant-loop : tie.invariant-loop-reading
 invariant-loop name table buffer₀ reading₀ made₀ buffer reading made =
-    (length buffer ≡ length buffer₀) × (made ≤ most) × Made goingAt GrowsAt (place reading₀ buffer₀) made (place reading buffer)
+    (length buffer ≡ length buffer₀) × (made ≤ most) × Made going_at GrowsAt (place reading₀ buffer₀) made (place reading buffer)
 
 abbrev decreases-loop : tie.decreases-loop-reading
 decreases-loop name table buffer₀ reading₀ made₀ buffer reading made = most - made
