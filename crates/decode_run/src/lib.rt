@@ -8,7 +8,7 @@ ghost use Rattle.std.specs.Prelude.{◌≡◌, ◌≤◌, false, [], length, tak
 ghost use Rattle.listing_lines.specs.Text.{header};
 ghost use Rattle.window.specs.Window.{Refills};
 ghost use Rattle.receiver.specs.Receive.{fresh};
-ghost use Rattle.listing.specs.Contracts.{room, at_end};
+ghost use Rattle.listing.specs.Promised.{room, at_end};
 ghost use Rattle.decode_run.specs.Turns.{Left, Turned, failed_in, last_of, none_accepted, status_of, Looped, Ran};
 
 use listing::Stop;
