@@ -57,8 +57,8 @@ writes-placed packet arrival wanted n before after q octet h k =
     m.0 ∙ ap (λ (c : Content). accept (record { packet = r.packet; content = c })) l.content in
     let is : q ≡ read.Report line = told_apart q (read.Report line) (report.reads k ∙ e) in
     record {
-      packetFields = r.packet;
-      lineFields = l.fields;
+      packet_fields = r.packet;
+      line_fields = l.fields;
       read = is;
       line = l.line;
       image = l.image;
