@@ -10,7 +10,7 @@ use Rattle.session.specs.Open.{opening}
 use Rattle.receiver.specs.Receive.{fresh_stream}
 use Rattle.listing_lines.specs.Text.{header}
 use Rattle.listing.specs.Listing.{items_text}
-use Rattle.listing.specs.Contracts.{to_come}
+use Rattle.listing.specs.Promised.{to_come}
 
 -- A session of t is offered what the stream holds, one after another.
 abbrev pub stream_listing : ℕ → List Stretch → List ℕ

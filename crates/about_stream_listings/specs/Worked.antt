@@ -5,7 +5,7 @@ use Rattle.source.specs.Scan.{fresh_kiss, fresh_bits}
 use Rattle.source.specs.declared.Source.{Source}
 use Rattle.receiver.specs.Receive.{fresh_stream}
 use Rattle.listing_lines.specs.Text.{header, line, dash}
-use Rattle.listing.specs.Contracts.{to_come}
+use Rattle.listing.specs.Promised.{to_come}
 use Rattle.about_streams.specs.Worked.{kiss_stream, bits_stream}
 
 -- A number of one digit.

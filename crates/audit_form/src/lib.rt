@@ -36,7 +36,7 @@ pub fn brought(read: Refilled) -> bool
 
 // Reads a table by its descriptor and a buffer, until a read brings nothing or fails, which is told on standard error, behind the program's
 // name. After 2^64 - 1 reads it would stop too.
-pub fn form(name: &[u8], table: i32, buffer: &mut [u8]) -> Formed
+pub fn form(name: &[u8], table: &window::Source, buffer: &mut [u8]) -> Formed
     ensures { Looped buffer.old result buffer.new }
 {
     let fresh = Form::fresh();
@@ -59,7 +59,7 @@ pub fn form(name: &[u8], table: i32, buffer: &mut [u8]) -> Formed
 
 impl Reading {
     // One read more, and the form with the octets that it brought.
-    fn more(self, name: &[u8], table: i32, buffer: &mut [u8]) -> Reading
+    fn more(self, name: &[u8], table: &window::Source, buffer: &mut [u8]) -> Reading
         ensures { Grows self buffer.old result buffer.new }
     {
         let before = self.form;

@@ -52,7 +52,7 @@ impl Audit {
     pub fn frame(
         self,
         name: &[u8],
-        table: i32,
+        table: &window::Source,
         rows: &mut [u8],
         answer: StepAnswer,
         octets: &[u8],
@@ -69,7 +69,7 @@ impl Audit {
     }
 
     // When no packet comes any more.
-    pub fn ended(self, name: &[u8], table: i32, rows: &mut [u8]) -> Audit
+    pub fn ended(self, name: &[u8], table: &window::Source, rows: &mut [u8]) -> Audit
         ensures { Ends self rows.old result rows.new }
     {
         if self.over {
@@ -103,7 +103,7 @@ impl Audit {
     fn packets(
         self,
         name: &[u8],
-        table: i32,
+        table: &window::Source,
         rows: &mut [u8],
         packets: u8,
         arrival: u32,
@@ -130,7 +130,14 @@ impl Audit {
     }
 
     // Beside one packet, until the next is wanted or the reading is over.
-    fn beside(self, name: &[u8], table: i32, rows: &mut [u8], packet: &[u8], arrival: u32) -> Audit
+    fn beside(
+        self,
+        name: &[u8],
+        table: &window::Source,
+        rows: &mut [u8],
+        packet: &[u8],
+        arrival: u32,
+    ) -> Audit
         ensures { Goes self rows.old (handed packet.now arrival ∷ []) result rows.new }
     {
         let mut audit = self;
@@ -144,7 +151,14 @@ impl Audit {
     }
 
     // One look at the rows at hand beside a packet; if it wants more rows they are read.
-    fn turn(self, name: &[u8], table: i32, rows: &mut [u8], packet: &[u8], arrival: u32) -> Turned
+    fn turn(
+        self,
+        name: &[u8],
+        table: &window::Source,
+        rows: &mut [u8],
+        packet: &[u8],
+        arrival: u32,
+    ) -> Turned
         requires { self.over ≡ false }
         ensures { Turns self rows.old (handed packet.now arrival) result rows.new }
     {
@@ -187,7 +201,7 @@ impl Audit {
     }
 
     // Reads until a row's octets are at hand, or none come.
-    fn filled(self, name: &[u8], table: i32, rows: &mut [u8]) -> Audit
+    fn filled(self, name: &[u8], table: &window::Source, rows: &mut [u8]) -> Audit
         ensures { Fills self rows.old result rows.new }
     {
         let mut audit = self;

@@ -11,12 +11,15 @@ ghost use Rattle.audit_run.specs.Told.{first_status, standing, Tells, Ends};
 
 use audit_form::Formed;
 use audit_turns::State;
-use libc::{SEEK_SET, STDERR_FILENO};
 use receiver::Receiver;
 use session::Session;
+use std::io::{Error, Result};
 use stretch::KEPT;
 use table::{Check, Verdict};
-use window::Written;
+use window::{Source, Written};
+
+// Standard error's descriptor.
+const STDERR_FILENO: i32 = 2;
 
 // The most turns.
 const TURNS: u64 = 18446744073709551615;
@@ -31,21 +34,23 @@ struct Stopped {
 // Checks the table in the file at path against what a fresh receiver hands out of the descriptor source, writes one line to standard
 // output,
 // and answers the program's exit status. What fails, and why a recording is bad, is told on standard error, behind the program's name.
-pub fn run(name: &[u8], path: &[u8], source: i32, receiver: Receiver) -> i32 {
-    let table = os::open_read(path);
-    if table < 0 {
-        complain(name, path);
-        return window::BROKEN;
+pub fn run(rt: &HostRuntime, name: &[u8], path: &[u8], source: &Source, receiver: Receiver) -> i32 {
+    match window::open(rt, path) {
+        Ok(file) => {
+            let table = Source::Named(file);
+            readings(name, path, &table, source, receiver)
+        }
+        Err(why) => {
+            complain(name, path, why);
+            window::BROKEN
+        }
     }
-    let status = readings(name, path, table, source, receiver);
-    libc::close(table);
-    status
 }
 
 // Both readings of the table. One that is badly formed is told before anything of the input is read.
-fn readings(name: &[u8], path: &[u8], table: i32, source: i32, receiver: Receiver) -> i32 {
-    if !readable(table) {
-        complain(name, path);
+fn readings(name: &[u8], path: &[u8], table: &Source, source: &Source, receiver: Receiver) -> i32 {
+    if let Err(why) = readable(table) {
+        complain(name, path, why);
         return window::BROKEN;
     }
     let mut buffer = io::large_buffer();
@@ -66,8 +71,8 @@ fn readings(name: &[u8], path: &[u8], table: i32, source: i32, receiver: Receive
         }
         return status;
     }
-    if !sought(table, check.start()) {
-        complain(name, path);
+    if let Err(why) = sought(table, check.start()) {
+        complain(name, path, why);
         return window::BROKEN;
     }
     let state = second(name, table, check, source, &mut buffer, receiver);
@@ -76,26 +81,18 @@ fn readings(name: &[u8], path: &[u8], table: i32, source: i32, receiver: Receive
 }
 
 // Says on standard error, behind the program's name, that the system failed with the table.
-fn complain(name: &[u8], path: &[u8]) {
-    io::write_all(STDERR_FILENO, name);
-    io::write_all(STDERR_FILENO, b": ");
-    os::fail(path);
+fn complain(name: &[u8], path: &[u8], why: Error) {
+    telling::fail(name, path, why);
 }
 
-// Whether the table's first octet can be read, by its place and without going on from there: not of a folder or a pipe.
-fn readable(table: i32) -> bool {
-    let mut one = [0u8; 1];
-    let got = libc::pread(table, &mut one, 0);
-    0 <= got
+// Reads the table's first octet by its place and without going on from there, which fails with a folder or a pipe.
+fn readable(table: &Source) -> Result<usize> {
+    table.probe()
 }
 
-// Goes to an index of the table, where its rows begin; whether the system did.
-fn sought(table: i32, at: usize) -> bool {
-    if 65536 < at {
-        return false;
-    }
-    let from = at as i64;
-    libc::lseek(table, from, SEEK_SET) == from
+// Goes to an index of the table, where its rows begin.
+fn sought(table: &Source, at: usize) -> Result<u64> {
+    table.seek(at as u64)
 }
 
 // What the first reading comes to: that it did not reach the file's end, that the table is badly formed, or that its rows are to be read.
@@ -116,9 +113,9 @@ fn first_status(formed: Formed, check: Check) -> i32
 // The second reading, with a buffer for the rows: where it stops.
 fn second(
     name: &[u8],
-    table: i32,
+    table: &Source,
     check: Check,
-    source: i32,
+    source: &Source,
     buffer: &mut [u8],
     receiver: Receiver,
 ) -> State {
@@ -151,9 +148,9 @@ fn second(
 // The same with all buffers. After 2^64 - 1 turns it would stop too.
 fn rows(
     name: &[u8],
-    table: i32,
+    table: &Source,
     check: Check,
-    source: i32,
+    source: &Source,
     input: &mut [u8],
     buffer: &mut [u8],
     kept: &mut [u8; KEPT],

@@ -55,8 +55,8 @@ impl State {
     pub fn turn(
         self,
         name: &[u8],
-        table: i32,
-        source: i32,
+        table: &window::Source,
+        source: &window::Source,
         input: &mut [u8],
         rows: &mut [u8],
         kept: &mut [u8; KEPT],
@@ -94,7 +94,7 @@ impl State {
 // them.
 fn heed(
     name: &[u8],
-    table: i32,
+    table: &window::Source,
     rows: &mut [u8],
     audit: Audit,
     pull: Pull,

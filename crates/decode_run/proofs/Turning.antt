@@ -12,7 +12,7 @@ use Rattle.window.specs.declared.Written.{Written}
 use Rattle.window.specs.declared.Refilled.{Refilled}
 use Rattle.window.proofs.Hands.{hand-behind, take_short}
 use Rattle.listing.specs.Next.{next_of, Nexts, Stops}
-use Rattle.listing.specs.Contracts.{room}
+use Rattle.listing.specs.Promised.{room}
 use Rattle.listing.proofs.Calls.{part_of}
 use Rattle.listing.specs.declared.Stop.{Stop}
 use Rattle.listing.specs.declared.Stop.TheVariants.{Missing, Full, Over}

@@ -12,7 +12,7 @@ use Rattle.window.specs.Window.{unread, unwritten}
 use Rattle.window.specs.declared.Written.{Written}
 use Rattle.window.specs.declared.Refilled.{Refilled}
 use Rattle.window.proofs.Looping.{at_first, one_more}
-use Rattle.listing.specs.Contracts.{to_come, at_end}
+use Rattle.listing.specs.Promised.{to_come, at_end}
 use Rattle.listing.specs.Whole.{Run, starts}
 use Rattle.listing.proofs.Whole.{pieces_are_listed}
 use Rattle.decode_run.specs.Turns.{hand_of, failed_in, Turned, Ends, Place, going_at, TurnedAt, start_of, place, Looped}

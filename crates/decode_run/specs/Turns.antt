@@ -8,7 +8,7 @@ use Rattle.receiver.specs.declared.Receiver.{Receiver}
 use Rattle.receiver.specs.Receive.{fresh}
 use Rattle.listing_lines.specs.Text.{header}
 use Rattle.listing.specs.Listing.{listing}
-use Rattle.listing.specs.Contracts.{to_come, at_end}
+use Rattle.listing.specs.Promised.{to_come, at_end}
 use Rattle.listing.specs.Next.{Nexts}
 use Rattle.listing.specs.Whole.{Run}
 use Rattle.listing.specs.declared.Listed.{Listed}

@@ -8,7 +8,7 @@ ghost use Rattle.std.specs.Prelude.{◌≡◌, ◌≤◌, false, [], length, tak
 ghost use Rattle.listing_lines.specs.Text.{header};
 ghost use Rattle.window.specs.Window.{Refills};
 ghost use Rattle.receiver.specs.Receive.{fresh};
-ghost use Rattle.listing.specs.Contracts.{room, at_end};
+ghost use Rattle.listing.specs.Promised.{room, at_end};
 ghost use Rattle.decode_run.specs.Turns.{Left, Turned, failed_in, last_of, none_accepted, status_of, Looped, Ran};
 
 use listing::Stop;
@@ -44,7 +44,7 @@ struct Stopped {
 
 // Lists the recording that comes by the descriptor source to standard output, and answers the program's exit status. What fails is told on
 // standard error, behind the program's name.
-pub fn run(name: &[u8], source: i32) -> i32
+pub fn run(name: &[u8], source: &window::Source) -> i32
     ensures { Ran [] fresh result }
 {
     let mut input = io::large_buffer();
@@ -59,7 +59,7 @@ pub fn run(name: &[u8], source: i32) -> i32
 }
 
 // The same of a stream, by a receiver of which nothing is read yet: the header line first.
-pub fn run_stream(name: &[u8], source: i32, receiver: Receiver) -> i32
+pub fn run_stream(name: &[u8], source: &window::Source, receiver: Receiver) -> i32
     ensures { Ran header receiver result }
 {
     let mut input = io::large_buffer();
@@ -103,7 +103,7 @@ fn failed(state: State) -> bool
 // or write that failed; after 2^64 - 1 turns it would end too. A stream whose first octets look like another kind is told so, and listed.
 fn turns(
     name: &[u8],
-    source: i32,
+    source: &window::Source,
     receiver: Receiver,
     first: Written,
     input: &mut [u8],
@@ -204,7 +204,7 @@ fn none_accepted(state: State) -> bool
 // One turn: what the octets at hand tell is written, and if octets are missing more are read.
 fn turn(
     name: &[u8],
-    source: i32,
+    source: &window::Source,
     input: &mut [u8],
     kept: &mut [u8; KEPT],
     out: &mut [u8],
@@ -267,7 +267,7 @@ fn emit(name: &[u8], out: &[u8], size: usize) -> Written
 // Reads more behind the octets at hand. Asked only once the text is written.
 fn refill(
     name: &[u8],
-    source: i32,
+    source: &window::Source,
     input: &mut [u8],
     at: usize,
     end: usize,

@@ -11,10 +11,12 @@ ghost use Rattle.export_kiss_run.specs.Turns.{room, Fits, HandsOn, leads, led_to
 ghost use Rattle.export_kiss_run.specs.Turns.{failed_in, Reads, Turned, Looped, status_of, Ran};
 
 use kiss_writer::Exported;
-use libc::STDERR_FILENO;
 use recording::{Reader, Taken};
 use source::Source;
 use window::{Refilled, Written};
+
+// Standard error's descriptor.
+const STDERR_FILENO: i32 = 2;
 
 // The most turns.
 const TURNS: u64 = 18446744073709551615;
@@ -49,7 +51,7 @@ struct Stopped {
 
 // Writes what comes by the descriptor source to standard output, with 0xC0 behind each frame or, if asked, both before and behind it, and
 // answers the program's exit status. What fails is told on standard error, behind the program's name.
-pub fn run(name: &[u8], source: i32, both: bool) -> i32
+pub fn run(name: &[u8], source: &window::Source, both: bool) -> i32
     ensures { Ran both result }
 {
     let mut input = io::large_buffer();
@@ -85,7 +87,13 @@ fn failed(state: State) -> bool
 }
 
 // The whole run. It ends with the input, a bad recording, or a read or write that failed; after 2^64 - 1 turns it would end too.
-fn turns(name: &[u8], source: i32, both: bool, input: &mut [u8], out: &mut [u8]) -> Stopped
+fn turns(
+    name: &[u8],
+    source: &window::Source,
+    both: bool,
+    input: &mut [u8],
+    out: &mut [u8],
+) -> Stopped
     requires { room ≤ length out.old }
     ensures { Looped both input.old result input.new }
 {
@@ -220,7 +228,7 @@ fn section(both: bool, taken: Taken, t: u8, frames: u64, hand: &[u8], out: &mut 
 // One turn: what the section at hand leads to is written, or more is read; what is left out and why a recording is bad is told.
 fn turn(
     name: &[u8],
-    source: i32,
+    source: &window::Source,
     both: bool,
     input: &mut [u8],
     out: &mut [u8],
@@ -278,7 +286,7 @@ fn turn(
 }
 
 // Octets are missing: more are read, and if none come the run ends, which is told where the recording is cut. A read that fails was told.
-fn more(name: &[u8], source: i32, input: &mut [u8], state: State) -> State
+fn more(name: &[u8], source: &window::Source, input: &mut [u8], state: State) -> State
     ensures { Reads state input.old result input.new }
 {
     let at = state.at;

@@ -5,12 +5,14 @@
 ghost use Rattle.std.specs.Prelude.{◌≡◌, length};
 ghost use Rattle.faults.specs.Why.{settings_why, frame_why, why_at, before, goes_on, stops_at};
 
-use libc::STDERR_FILENO;
 use recording::{Reader, Taken};
 use source::Source;
 use start::Look;
 
 mod start;
+
+// Standard error's descriptor.
+const STDERR_FILENO: i32 = 2;
 
 // What is wrong with a recording.
 #[derive(Clone, Copy)]

@@ -73,7 +73,7 @@ impl Feed {
     pub fn pull(
         self,
         name: &[u8],
-        descriptor: i32,
+        descriptor: &window::Source,
         input: &mut [u8],
         receiver: Receiver,
         kept: &mut [u8; KEPT],
@@ -110,7 +110,7 @@ impl Feed {
 // What is told by what a receiver tells that went on from a source, and the feed behind it; if octets are missing more are read.
 fn tell(
     name: &[u8],
-    descriptor: i32,
+    descriptor: &window::Source,
     input: &mut [u8],
     from: usize,
     end: usize,
@@ -155,7 +155,7 @@ fn tell(
 // kind of input is told so.
 fn more(
     name: &[u8],
-    descriptor: i32,
+    descriptor: &window::Source,
     input: &mut [u8],
     from: usize,
     end: usize,

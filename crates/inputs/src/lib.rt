@@ -2,10 +2,14 @@
 #![tactic(auto)]
 
 ghost use Rattle.std.specs.Prelude.{◌≡◌};
+ghost use Rattle.io.specs.Counts.{IsPrefixLen};
 ghost use Rattle.inputs.specs.Words.{time_of, wrong_words, none_named, receiver_of};
 
-use libc::STDERR_FILENO;
 use receiver::Receiver;
+use std::env::{Env, FillError};
+
+// Standard error's descriptor.
+const STDERR_FILENO: i32 = 2;
 
 // t, told by one digit, 0 to 8; else 9.
 fn time(word: &[u8]) -> u8
@@ -57,13 +61,33 @@ pub fn tell(name: &[u8]) {
     );
 }
 
+// Puts the program's word number i to the start of a buffer, and answers how many octets it has: 0 too if it is not there or too long.
+pub fn word(rt: &HostRuntime, i: usize, buffer: &mut [u8]) -> usize
+    ensures { IsPrefixLen result buffer.new }
+{
+    match rt.arg(i, buffer) {
+        Ok(n) => n,
+        Err(_) => 0,
+    }
+}
+
+// Whether the program has a word number i.
+pub fn has_word(rt: &HostRuntime, i: usize) -> bool {
+    let mut none = [0u8; 1];
+    match rt.arg(i, &mut none) {
+        Ok(_) => true,
+        Err(FillError::TooLong) => true,
+        Err(FillError::NotPresent) => false,
+    }
+}
+
 // Whether the program's words from number i on name no input, which is told; a word that is empty or too long names none.
-pub fn refused(name: &[u8], i: usize) -> bool {
+pub fn refused(rt: &HostRuntime, name: &[u8], i: usize) -> bool {
     let mut kind = [0u8; 8];
     let mut word = [0u8; 2];
-    let n = os::arg(i, &mut kind);
-    let m = os::arg(std::num::wrapping_add_usize(i, 1), &mut word);
-    let refused = none_named(i < os::arg_count(), &kind[..n], &word[..m]);
+    let n = self::word(rt, i, &mut kind);
+    let m = self::word(rt, std::num::wrapping_add_usize(i, 1), &mut word);
+    let refused = none_named(has_word(rt, i), &kind[..n], &word[..m]);
     if refused {
         tell(name);
     }
@@ -81,10 +105,10 @@ fn none_named(there: bool, kind: &[u8], word: &[u8]) -> bool
 }
 
 // The receiver of the input that the program's words from number i on name, if they are not refused.
-pub fn by_words(i: usize) -> Receiver {
+pub fn by_words(rt: &HostRuntime, i: usize) -> Receiver {
     let mut kind = [0u8; 8];
     let mut word = [0u8; 2];
-    let n = os::arg(i, &mut kind);
-    let m = os::arg(std::num::wrapping_add_usize(i, 1), &mut word);
+    let n = self::word(rt, i, &mut kind);
+    let m = self::word(rt, std::num::wrapping_add_usize(i, 1), &mut word);
     receiver(&kind[..n], &word[..m])
 }

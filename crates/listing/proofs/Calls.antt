@@ -27,7 +27,7 @@ use Rattle.receiver.specs.declared.Receiver.{Receiver}
 use Rattle.listing_lines.specs.Text.{longest_line, header, bad_recording}
 use Rattle.listing_lines.proofs.Short.{lines_are_short}
 use Rattle.listing.specs.Listing.{packets_text, made, outcome_text}
-use Rattle.listing.specs.Contracts.{room, to_come}
+use Rattle.listing.specs.Promised.{room, to_come}
 use Rattle.listing.specs.Next.{Next, receiver, here, behind, offering, by_section, sections, next_of, Nexts, Stops, Part, NextsAreParts}
 use Rattle.listing.specs.declared.Listed.{Listed}
 use Rattle.listing.specs.declared.Stop.{Stop}

@@ -10,7 +10,7 @@ use Rattle.decimal.specs.Laid.{Puts}
 use Rattle.source.specs.Found.{cut_at}
 use Rattle.source.specs.declared.Source.{Source}
 use Rattle.listing_lines.specs.Text.{longest_line, bad_recording}
-use Rattle.listing.specs.Contracts.{at_end}
+use Rattle.listing.specs.Promised.{at_end}
 
 either : {A : Type 0} (b : Bool) {x y z : A} → x ≡ y → x ≡ z → x ≡ pick b y z
 unfolding pick

@@ -23,7 +23,7 @@ use Rattle.receiver.specs.Run.{roomy}
 use Rattle.receiver.proofs.Enough.{same_outcome}
 use Rattle.listing_lines.specs.Text.{answer_text}
 use Rattle.listing.specs.Listing.{packets_text, made, outcome_text}
-use Rattle.listing.specs.Contracts.{cut, answered}
+use Rattle.listing.specs.Promised.{cut, answered}
 
 abbrev numbered : ℕ → ℕ → List ℕ → Handed
 numbered first a p = record { first = first; arrival = a; packet = p }

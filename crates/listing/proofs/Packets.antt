@@ -22,7 +22,7 @@ use Rattle.decimal.proofs.Laid.{joined, resaid, laid_puts}
 use Rattle.listing_lines.specs.Text.{longest_line, answer_text, packet_text}
 use Rattle.listing_lines.proofs.Short.{lines_are_short}
 use Rattle.listing.specs.Listing.{packets_text}
-use Rattle.listing.specs.Contracts.{room, cut, answered}
+use Rattle.listing.specs.Promised.{room, cut, answered}
 
 -- one packet more
 packets-more : (a : ℕ) (octets ns firsts : List ℕ) (n : ℕ) → total ns + n ≤ length octets → length ns < length firsts

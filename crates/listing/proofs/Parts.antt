@@ -16,7 +16,7 @@ use Rattle.session.specs.Open.{opening}
 use Rattle.session.specs.declared.Session.{Session}
 use Rattle.listing_lines.specs.Text.{header, bad_recording}
 use Rattle.listing.specs.Listing.{made, outcome_text, items_text, last_line, listed}
-use Rattle.listing.specs.Contracts.{to_come}
+use Rattle.listing.specs.Promised.{to_come}
 use Rattle.listing.specs.Next.{receiver}
 
 -- What comes after what was found first.

@@ -26,7 +26,7 @@ use Rattle.receiver.specs.declared.Receiver.{Receiver}
 use Rattle.receiver.proofs.Offering.{Offered, offer-used, by_offer}
 use Rattle.listing_lines.specs.Text.{longest_line, header, bad_recording}
 use Rattle.listing.specs.Listing.{made, outcome_text}
-use Rattle.listing.specs.Contracts.{room}
+use Rattle.listing.specs.Promised.{room}
 use Rattle.listing.specs.Next.{Next, receiver, here, behind, offering, by_section, sections, next_of, stopped, listed_of, Nexts}
 use Rattle.listing.specs.declared.Listed.{Listed}
 use Rattle.listing.specs.declared.Stop.{Stop}

@@ -11,7 +11,7 @@ use Rattle.source.specs.declared.Source.{Source}
 use Rattle.session.specs.declared.Session.{Session}
 use Rattle.receiver.specs.declared.Receiver.{Receiver}
 use Rattle.listing.specs.Listing.{listed}
-use Rattle.listing.specs.Contracts.{to_come, at_end}
+use Rattle.listing.specs.Promised.{to_come, at_end}
 use Rattle.listing.specs.Whole.{Run, starts, reads, lists, PiecesAreListed, ListsRecordings}
 use Rattle.listing.proofs.Calls.{part_of}
 use Rattle.listing.proofs.Parts.{none-listed}

@@ -1,4 +1,4 @@
-pub mod Contracts
+pub mod Promised
 pub mod Listing
 pub mod Next
 pub mod Whole

@@ -12,7 +12,7 @@ use Rattle.session.specs.declared.Session.{Session}
 use Rattle.receiver.specs.declared.Receiver.{Receiver}
 use Rattle.listing_lines.specs.Text.{header, bad_recording}
 use Rattle.listing.specs.Listing.{made, outcome_text}
-use Rattle.listing.specs.Contracts.{room, to_come}
+use Rattle.listing.specs.Promised.{room, to_come}
 use Rattle.listing.specs.declared.Listed.{Listed}
 use Rattle.listing.specs.declared.Stop.{Stop}
 use Rattle.listing.specs.declared.Stop.TheVariants.{Missing, Full, Over}

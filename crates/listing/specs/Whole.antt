@@ -4,7 +4,7 @@ use Rattle.source.specs.Scan.{Waits, Over}
 use Rattle.receiver.specs.Receive.{fresh}
 use Rattle.receiver.specs.declared.Receiver.{Receiver}
 use Rattle.listing.specs.Listing.{listing}
-use Rattle.listing.specs.Contracts.{to_come, at_end}
+use Rattle.listing.specs.Promised.{to_come, at_end}
 use Rattle.listing.specs.Next.{Nexts}
 use Rattle.listing.specs.declared.Listed.{Listed}
 

@@ -9,7 +9,7 @@ ghost use Rattle.rules.specs.Packets.{total};
 ghost use Rattle.session.specs.Step.{told};
 ghost use Rattle.listing_lines.specs.Text.{longest_line};
 ghost use Rattle.listing.specs.Listing.{packets_text};
-ghost use Rattle.listing.specs.Contracts.{room, at_end, answered, cut};
+ghost use Rattle.listing.specs.Promised.{room, at_end, answered, cut};
 ghost use Rattle.listing.specs.Next.{stopped, Nexts};
 
 use listing_lines::{LINE, bad_line};

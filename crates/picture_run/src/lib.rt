@@ -29,8 +29,8 @@ const TURNS: u64 = 18446744073709551615;
 
 // Where octets come from, and the receiver that takes them.
 #[derive(Clone, Copy)]
-struct Input {
-    descriptor: i32,
+struct Input<'a> {
+    descriptor: &'a window::Source,
     receiver: Receiver,
 }
 
@@ -54,7 +54,13 @@ pub(crate) struct Stopped {
 // Places every packet that a fresh receiver hands out of a descriptor, if it is a line of the image, and writes the image as a greymap to
 // standard output, or if asked its line numbers; answers the program's exit status. What fails, that no line was received, and then what
 // was refused, is told on standard error, behind the program's name.
-pub fn run(name: &[u8], image: &[u8], lines: bool, descriptor: i32, receiver: Receiver) -> i32
+pub fn run(
+    name: &[u8],
+    image: &[u8],
+    lines: bool,
+    descriptor: &window::Source,
+    receiver: Receiver,
+) -> i32
     ensures { Ran image.now lines receiver result }
 {
     let wanted = words::number(image);
@@ -70,7 +76,7 @@ pub fn run(name: &[u8], image: &[u8], lines: bool, descriptor: i32, receiver: Re
 }
 
 // The same of an image by its number.
-fn show_image(name: &[u8], wanted: u16, lines: bool, input: Input) -> i32
+fn show_image(name: &[u8], wanted: u16, lines: bool, input: Input<'_>) -> i32
     ensures { Shown wanted lines input.receiver result }
 {
     let mut pixels = black();
@@ -111,7 +117,7 @@ fn unnoted() -> [u32; picture_images::PLACES]
 // Takes the whole input. It ends with the input, a bad recording or a failed read; after 2^64 - 1 turns it would end too.
 fn turns(
     name: &[u8],
-    input: Input,
+    input: Input<'_>,
     wanted: u16,
     pixels: &mut [u8],
     numbers: &mut [u32],
@@ -157,7 +163,7 @@ fn turns(
 }
 
 // Before the first turn.
-fn start(input: Input) -> State
+fn start(input: Input<'_>) -> State
     ensures { result ≡ start_of input.receiver }
 {
     let feed = Feed::fresh();
@@ -175,7 +181,7 @@ fn start(input: Input) -> State
 // One turn: the next section of the octets at hand, or a further read.
 fn turn(
     name: &[u8],
-    descriptor: i32,
+    descriptor: &window::Source,
     input: &mut [u8],
     kept: &mut [u8; KEPT],
     octets: &mut [u8],

@@ -13,9 +13,15 @@ mod loading;
 // Writes the readings of what comes by a descriptor to a receiver of which nothing is read yet, by the layouts in the file at path, to
 // standard output, and answers the exit status. What fails, and then what was refused, is told on standard error, behind the program's
 // name.
-pub fn run(name: &[u8], path: &[u8], descriptor: i32, fresh: Receiver) -> i32 {
+pub fn run(
+    rt: &HostRuntime,
+    name: &[u8],
+    path: &[u8],
+    descriptor: &window::Source,
+    fresh: Receiver,
+) -> i32 {
     let mut text = io::large_buffer();
-    match loading::load(name, path, &mut text) {
+    match loading::load(rt, name, path, &mut text) {
         Loaded::Wrong => window::AGAINST,
         Loaded::Failed => window::BROKEN,
         Loaded::Text(size) => given(name, path, octets::part(&text, 0, size), descriptor, fresh),
@@ -23,7 +29,13 @@ pub fn run(name: &[u8], path: &[u8], descriptor: i32, fresh: Receiver) -> i32 {
 }
 
 // The same with the file's text.
-fn given(name: &[u8], path: &[u8], text: &[u8], descriptor: i32, fresh: Receiver) -> i32 {
+fn given(
+    name: &[u8],
+    path: &[u8],
+    text: &[u8],
+    descriptor: &window::Source,
+    fresh: Receiver,
+) -> i32 {
     let mut apids = [0u16; layouts::LAYOUTS];
     let mut sids = [0u8; layouts::LAYOUTS];
     let mut starts = [0usize; layouts::LAYOUTS + 1];
@@ -67,7 +79,7 @@ fn end_last(starts: &mut [usize], n: usize, entries: usize)
 // Takes the recording, writes its readings, and tells what was refused, unless a write failed. It answers the exit status.
 fn recording(
     name: &[u8],
-    descriptor: i32,
+    descriptor: &window::Source,
     text: &[u8],
     apids: &[u16],
     sids: &[u8],

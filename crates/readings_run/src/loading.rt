@@ -3,8 +3,12 @@ ghost use Rattle.readings_run.specs.Text.{Ends};
 
 use layout_names::Repeat;
 use layouts::Fault;
-use libc::STDERR_FILENO;
+use std::fs::File;
+use std::io::Read;
+use std::os::fd::AsRawFd;
 
+// Standard error's descriptor.
+const STDERR_FILENO: i32 = 2;
 // What loading the file came to.
 #[derive(Clone, Copy)]
 pub(crate) enum Loaded {
@@ -17,14 +21,14 @@ pub(crate) enum Loaded {
 }
 
 // Puts the file at path to the start of text, and a newline behind it where the last line has none.
-pub(crate) fn load(name: &[u8], path: &[u8], text: &mut [u8]) -> Loaded {
-    let file = os::open_read(path);
-    if file < 0 {
-        telling::fail(name, path);
-        return Loaded::Failed;
-    }
-    let filled = fill(name, path, file, text);
-    libc::close(file);
+pub(crate) fn load(rt: &HostRuntime, name: &[u8], path: &[u8], text: &mut [u8]) -> Loaded {
+    let filled = match window::open(rt, path) {
+        Ok(file) => fill(name, path, &file, text),
+        Err(why) => {
+            telling::fail(name, path, why);
+            Loaded::Failed
+        }
+    };
     match filled {
         Loaded::Text(size) => Loaded::Text(line_ended(text, size)),
         _ => filled,
@@ -49,23 +53,25 @@ fn line_ended(text: &mut [u8], n: usize) -> usize
 }
 
 // Puts the file's octets to the start of text.
-fn fill(name: &[u8], path: &[u8], file: i32, text: &mut [u8]) -> Loaded {
-    let n = io::read_full(file, text);
+fn fill(name: &[u8], path: &[u8], file: &File, text: &mut [u8]) -> Loaded {
+    let n = io::read_full(file.as_raw_fd(), text);
     if n == text.len() {
         about(name, path, b" has more than 65,535 octets\n");
         return Loaded::Wrong;
     }
     let mut more = [0u8; 1];
-    let got = libc::read(file, &mut more);
-    if got < 0 {
-        telling::fail(name, path);
-        return Loaded::Failed;
+    let mut from = file;
+    match from.read(&mut more) {
+        Ok(0) => Loaded::Text(n),
+        Ok(_) => {
+            about(name, path, b" changed while it was read\n");
+            Loaded::Failed
+        }
+        Err(why) => {
+            telling::fail(name, path, why);
+            Loaded::Failed
+        }
     }
-    if got > 0 {
-        about(name, path, b" changed while it was read\n");
-        return Loaded::Failed;
-    }
-    Loaded::Text(n)
 }
 
 // Says a line about the file.

@@ -70,7 +70,7 @@ impl Stopped {
 // what is left behind the last turn.
 pub fn report(
     name: &[u8],
-    descriptor: i32,
+    descriptor: &window::Source,
     input: &mut [u8],
     text: &[u8],
     apids: &[u16],
@@ -107,7 +107,7 @@ pub fn report(
 // The turns. They end with the input, a bad recording, or a read or a write that failed; after 2^64 - 1 turns they would end too.
 fn turns(
     name: &[u8],
-    descriptor: i32,
+    descriptor: &window::Source,
     input: &mut [u8],
     text: &[u8],
     apids: &[u16],
@@ -182,7 +182,7 @@ fn begins(fresh: Receiver, first: State) -> Standing
 // One turn: what is told of the recording's next section is heeded, and the text is written before a read that could wait.
 fn turn(
     name: &[u8],
-    descriptor: i32,
+    descriptor: &window::Source,
     input: &mut [u8],
     kept: &mut [u8; KEPT],
     octets: &mut [u8],

@@ -1,6 +1,7 @@
 // What is printed of a case.
-use libc::STDOUT_FILENO;
 
+// Standard output's descriptor.
+const STDOUT_FILENO: i32 = 1;
 // Prints text.
 pub fn say(s: &[u8]) {
     io::write_all(STDOUT_FILENO, s);

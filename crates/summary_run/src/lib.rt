@@ -12,7 +12,6 @@ ghost use Rattle.summary_run.specs.Whole.{Looped, Counts};
 ghost use Rattle.summary_run.specs.Told.{Finished, no_counts, Runs};
 
 use feed::{Feed, Pull};
-use libc::STDIN_FILENO;
 use receiver::Receiver;
 use session::Session;
 use stretch::KEPT;
@@ -44,16 +43,23 @@ struct Stopped {
     made: u64,
 }
 
-// Counts all that a fresh receiver tells of standard input, writes the counts to standard output, as text or as CSV, and answers the
+// Counts all that a fresh receiver tells of what comes from a source, writes the counts to standard output, as text or as CSV, and answers the
 // program's exit status. What fails, and why a recording is bad, is told on standard error.
-pub fn run(csv: bool, receiver: Receiver) -> i32
+pub fn run(csv: bool, source: &window::Source, receiver: Receiver) -> i32
     ensures { Runs csv receiver result }
 {
     let mut counts = no_counts();
     let mut keys = [0u32; KEYS];
     let mut many = [0u64; KEYS];
     let mut last = [0u16; sequence::LIST];
-    let stopped = count(&mut counts, &mut keys, &mut many, &mut last, receiver);
+    let stopped = count(
+        source,
+        &mut counts,
+        &mut keys,
+        &mut many,
+        &mut last,
+        receiver,
+    );
     finish(csv, stopped, &counts, &keys, &many)
 }
 
@@ -66,6 +72,7 @@ fn no_counts() -> [u64; counters::COUNTERS]
 
 // Counts the whole input, and then whether the recording is bad.
 fn count(
+    source: &window::Source,
     counts: &mut [u64],
     keys: &mut [u32],
     many: &mut [u64],
@@ -76,7 +83,7 @@ fn count(
         (ledger counts.new keys.new many.new last.new) }
 {
     let mut input = io::large_buffer();
-    let stopped = turns(&mut input, counts, keys, many, last, receiver);
+    let stopped = turns(source, &mut input, counts, keys, many, last, receiver);
     let state = stopped.state;
     counters::judge(counts, state.bad);
     stopped
@@ -84,6 +91,7 @@ fn count(
 
 // The turns. They end with the input, a bad recording or a failed read; after 2^64 - 1 turns they would end too.
 fn turns(
+    source: &window::Source,
     input: &mut [u8],
     counts: &mut [u64],
     keys: &mut [u32],
@@ -113,6 +121,7 @@ fn turns(
             return Stopped { state, made };
         }
         state = turn(
+            source,
             input,
             &mut kept,
             &mut octets,
@@ -131,6 +140,7 @@ fn turns(
 
 // One turn: the next section of the octets at hand, or a further read.
 fn turn(
+    source: &window::Source,
     input: &mut [u8],
     kept: &mut [u8; KEPT],
     octets: &mut [u8],
@@ -152,14 +162,7 @@ fn turn(
     let before = state.feed;
     let first = state.receiver;
     let pulled = before.pull(
-        b"summary",
-        STDIN_FILENO,
-        input,
-        first,
-        kept,
-        octets,
-        lengths,
-        firsts,
+        b"summary", source, input, first, kept, octets, lengths, firsts,
     );
     let feed = pulled.feed;
     let receiver = pulled.receiver;

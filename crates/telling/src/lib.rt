@@ -4,8 +4,10 @@
 ghost use Rattle.std.specs.Prelude.{◌≡◌};
 ghost use Rattle.telling.specs.Counts.{counted, next_of};
 
-use libc::STDERR_FILENO;
+use std::io::{Cursor, Error, Write};
 
+// Standard error's descriptor.
+const STDERR_FILENO: i32 = 2;
 // Says a line.
 pub fn say(name: &[u8], what: &[u8]) {
     io::write_all(STDERR_FILENO, name);
@@ -13,9 +15,45 @@ pub fn say(name: &[u8], what: &[u8]) {
 }
 
 // Says that a file could not be opened, read or written, and why.
-pub fn fail(name: &[u8], file: &[u8]) {
+pub fn fail(name: &[u8], file: &[u8], why: Error) {
     say(name, b": ");
-    os::fail(file);
+    explain(file, why);
+}
+
+// Says what failed, and behind a colon the system's words for why.
+pub fn explain(what: &[u8], why: Error) {
+    let mut text = Cursor::new([0u8; 256]);
+    let put = write!(text, "{why}");
+    let n = match put {
+        Ok(()) => worded(why, text.position()),
+        Err(_) => 0,
+    };
+    say(what, b": ");
+    io::write_all(STDERR_FILENO, octets::part(text.get_ref(), 0, n));
+    io::write_all(STDERR_FILENO, b"\n");
+}
+
+// How many octets of an error's text, which has n, are the system's words: its number stands behind them, as in " (os error 2)".
+fn worded(why: Error, n: u64) -> usize {
+    let all = n as usize;
+    match why.raw_os_error() {
+        Some(code) => {
+            let behind = numbered(code);
+            if all < behind { all } else { all - behind }
+        }
+        None => all,
+    }
+}
+
+// How many octets tell an error's number behind the system's words.
+fn numbered(code: i32) -> usize {
+    if code < 10 {
+        return 13;
+    }
+    if code < 100 {
+        return 14;
+    }
+    15
 }
 
 // Counts one more of a number, if it has a place in the counts.

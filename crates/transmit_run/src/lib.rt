@@ -12,9 +12,11 @@ ghost use Rattle.transmit_run.specs.Filled.{Fills, Looped};
 ghost use Rattle.transmit_run.specs.Ended.{Ends, status_of};
 ghost use Rattle.transmit_run.specs.Whole.{Makes, Reads};
 
-use libc::STDERR_FILENO;
 use transmit_settings::{Fault, State};
 use window::{Refilled, Written};
+
+// Standard error's descriptor.
+const STDERR_FILENO: i32 = 2;
 
 // The most reads of a script.
 const READS: u64 = 18446744073709551615;
@@ -278,7 +280,7 @@ struct Filled {
 }
 
 // Reads more of the script behind the octets at hand; where there is no room none is read.
-fn more(name: &[u8], source: i32, script: &mut [u8], before: Filling) -> Filling
+fn more(name: &[u8], source: &window::Source, script: &mut [u8], before: Filling) -> Filling
     ensures { Fills before script.old result script.new }
 {
     let have = before.have;
@@ -298,7 +300,7 @@ fn more(name: &[u8], source: i32, script: &mut [u8], before: Filling) -> Filling
 }
 
 // Reads the script to its end, or as far as there is room. A read that fails is told; after 2^64 - 1 reads it would end too.
-fn fill(name: &[u8], source: i32, script: &mut [u8]) -> Filled
+fn fill(name: &[u8], source: &window::Source, script: &mut [u8]) -> Filled
     ensures { Looped script.old result script.new }
 {
     let mut state = Filling {
@@ -320,7 +322,7 @@ fn fill(name: &[u8], source: i32, script: &mut [u8]) -> Filled
 // Makes the recording of the script that comes by the descriptor source, on standard output, and answers the exit status. What fails is
 // told
 // on standard error, behind the program's name.
-pub fn run(name: &[u8], source: i32) -> i32
+pub fn run(name: &[u8], source: &window::Source) -> i32
     ensures { Reads result }
 {
     let mut script = io::large_buffer();

@@ -2,9 +2,11 @@
 #![tactic(auto)]
 
 use format_cases::{frames, packets, reports};
-use libc::STDIN_FILENO;
 use records::{input, kinds, places, text};
 use session::Session;
+
+// Standard input's descriptor.
+const STDIN_FILENO: i32 = 0;
 
 // Runs a case of a call without a session by its kind, on what is lent to it.
 fn format(c: &[u8], octets: &mut [u8], words: &mut [u16], fours: &mut [u32]) {

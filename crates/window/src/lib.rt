@@ -4,9 +4,21 @@
 #![tactic(auto)]
 
 ghost use Rattle.std.specs.Prelude.{◌+◌, ◌≤◌, ◌≡◌, length, take, drop};
+ghost use Rattle.std.specs.Io.{ReadsAtMost};
+ghost use Rattle.std.specs.Process.{exit_status};
+ghost use Rattle.window.specs.Status.{done, against, broken};
 ghost use Rattle.window.specs.Window.{hand, Refills, unread, unwritten};
 
-use libc::{STDERR_FILENO, STDIN_FILENO, STDOUT_FILENO};
+use std::fs::File;
+use std::io::{Error, ErrorKind, Read, Result, Seek, SeekFrom, Stdin};
+use std::os::unix::fs::FileExt;
+use std::process::ExitCode;
+use std_io::io::last_error;
+
+// The descriptors of standard output and standard error.
+const STDOUT_FILENO: i32 = 1;
+
+const STDERR_FILENO: i32 = 2;
 
 // A program's exit status: all that was asked was done.
 pub const DONE: i32 = 0;
@@ -16,6 +28,77 @@ pub const AGAINST: i32 = 1;
 
 // The program was used wrongly, or the system failed.
 pub const BROKEN: i32 = 2;
+
+// The system's number for octets that are no text: EILSEQ.
+const NO_TEXT: i32 = 84;
+
+// A program's exit status as the system takes it.
+pub fn exit(status: i32) -> ExitCode
+    ensures done { status ≡ done → exit_status result ≡ 0 }
+    ensures against { status ≡ against → exit_status result ≡ 1 }
+    ensures broken { status ≡ broken → exit_status result ≡ 2 }
+{
+    if status == DONE {
+        return ExitCode::from(0);
+    }
+    if status == AGAINST {
+        return ExitCode::from(1);
+    }
+    ExitCode::from(2)
+}
+
+// Where octets come from: standard input, or a file that the command line names.
+#[derive(Drop)]
+pub enum Source {
+    Input(Stdin),
+    Named(File),
+}
+
+impl Source {
+    // Reads once, as many octets as come, to the buffer's start.
+    fn read_once(&self, part: &mut [u8]) -> Result<usize>
+        ensures { ReadsAtMost result part.new }
+    {
+        match self {
+            Source::Input(input) => {
+                let mut from = input;
+                from.read(part)
+            }
+            Source::Named(file) => {
+                let mut from = file;
+                from.read(part)
+            }
+        }
+    }
+
+    // Reads the first octet by its place, without going on from there: that fails with a folder or a pipe. Standard input is no named file.
+    pub fn probe(&self) -> Result<usize> {
+        let mut one = [0u8; 1];
+        match self {
+            Source::Input(_) => Err(Error::from(ErrorKind::NotSeekable)),
+            Source::Named(file) => file.read_at(&mut one, 0),
+        }
+    }
+
+    // Goes to an index of a named file, and answers where it is then.
+    pub fn seek(&self, at: u64) -> Result<u64> {
+        match self {
+            Source::Input(_) => Err(Error::from(ErrorKind::NotSeekable)),
+            Source::Named(file) => {
+                let mut from = file;
+                from.seek(SeekFrom::Start(at))
+            }
+        }
+    }
+}
+
+// Opens the file at a path for reading. The path is text in UTF-8; octets that are none name no file.
+pub fn open(rt: &HostRuntime, path: &[u8]) -> Result<File> {
+    match std::str::from_utf8(path) {
+        Ok(text) => File::open(rt, text),
+        Err(_) => Err(Error::from_raw_os_error(NO_TEXT)),
+    }
+}
 
 // What a read left: how many octets are at hand, from the buffer's start on, how many of them came, whether it failed, and whether the
 // system was asked at all. The fields are private, so that only a read answers that octets came, that none are left or that it failed.
@@ -121,7 +204,7 @@ pub fn hand(input: &[u8], at: usize, end: usize) -> &[u8]
 
 // Moves the octets at hand to the buffer's start and reads behind them once. What fails is told on standard error, behind the program's
 // name; where the buffer has no room nothing is read, and that is told as a failure.
-pub fn refill(name: &[u8], source: i32, input: &mut [u8], at: usize, end: usize) -> Refilled
+pub fn refill(name: &[u8], source: &Source, input: &mut [u8], at: usize, end: usize) -> Refilled
     ensures { Refills input.old at end input.new result }
 {
     let have = hand(input, at, end).len();
@@ -154,7 +237,7 @@ pub fn write(name: &[u8], out: &[u8], n: usize) -> Written
     let well = io::write_all(STDOUT_FILENO, octets);
     if !well {
         io::write_all(STDERR_FILENO, name);
-        os::fail(b": standard output");
+        telling::explain(b": standard output", last_error());
     }
     Written {
         size,
@@ -175,42 +258,49 @@ fn shift(input: &mut [u8], at: usize, n: usize)
 }
 
 // One read to the octets from index `from` on; one that fails is told.
-fn read_some(name: &[u8], source: i32, input: &mut [u8], from: usize) -> Got
+fn read_some(name: &[u8], source: &Source, input: &mut [u8], from: usize) -> Got
     requires { from ≤ length input.old }
     ensures came_in_bounds { from + result.came ≤ length input.new }
     ensures input_unchanged { take from input.new ≡ take from input.old }
 {
     let part = &mut input[from..];
-    let got = libc::read(source, part);
-    report(name, source, got);
-    let came = io::count(got, part);
-    Got {
-        came,
-        failed: got < 0,
+    match source.read_once(part) {
+        Ok(came) => Got {
+            came,
+            failed: false,
+        },
+        Err(why) => {
+            report(name, source, why);
+            Got {
+                came: 0,
+                failed: true,
+            }
+        }
     }
 }
 
 // Tells on standard error, behind the program's name, which input this is about: a program reads standard input, or one file that its
 // command line names.
-fn name_input(name: &[u8], source: i32) {
+fn name_input(name: &[u8], source: &Source) {
     io::write_all(STDERR_FILENO, name);
-    if source == STDIN_FILENO {
-        io::write_all(STDERR_FILENO, b": standard input");
-        return;
+    match source {
+        Source::Input(_) => {
+            io::write_all(STDERR_FILENO, b": standard input");
+        }
+        Source::Named(_) => {
+            io::write_all(STDERR_FILENO, b": the named file");
+        }
     }
-    io::write_all(STDERR_FILENO, b": the named file");
 }
 
 // Tells on standard error that there is no room for a read.
-fn tell_full(name: &[u8], source: i32) {
+fn tell_full(name: &[u8], source: &Source) {
     name_input(name, source);
     io::write_all(STDERR_FILENO, b": no room to read more of it\n");
 }
 
 // Tells a read that failed on standard error.
-fn report(name: &[u8], source: i32, got: isize) {
-    if got < 0 {
-        name_input(name, source);
-        os::fail(b"");
-    }
+fn report(name: &[u8], source: &Source, why: Error) {
+    name_input(name, source);
+    telling::explain(b"", why);
 }

@@ -28,7 +28,7 @@ part-read-end c = omega (arith, good-fits c.loop-i.invariant (search rules) (sea
 returns : tie.Need-returns-in-Refused invariant-loop decreases-loop
 returns c =
     let l = c in
-    good-bad l.loop-i.invariant l.loop-i-test.true _ _ c.read.ensures c.refusal-1.given.1
+    good-bad l.loop-i.invariant l.loop-i-test.true _ _ c.read.ensures c.in-Refused.is
 
 loop-again : tie.Need-loop-i-preserved invariant-loop decreases-loop
 loop-again c =

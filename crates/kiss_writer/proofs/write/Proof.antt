@@ -62,7 +62,7 @@ returns-5 c =
     let f = c in
     let w = f in
     refuses-bad _ _ _ _ w.if-t-gt-LONGEST_TIME.false w.wrong.ensures f.if-wrong.false f.first_bad.ensures
-    c.refusal-1.given.1
+    c.in-Refused.is
 
 returns-6 : tie.Need-returns-else-room-n-2
 returns-6 c =

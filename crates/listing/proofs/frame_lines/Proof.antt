@@ -58,7 +58,7 @@ returns-2 c =
     let s = start c4 in
     let a = s.args in
     without_packets a.answer a.arrival a.octets.now a.lengths.now a.firsts.now (omega (arith, s.pre.0)) l.ensures
-    c.enum_told-1.given.1
+    c.in-Refused.is
 
 pub frame_lines_spec : {M : Type 1} → statement M
 frame_lines_spec =

@@ -27,26 +27,26 @@ returns : tie.Need-returns-in-Missing invariant-loop decreases-loop
 returns c =
     let s = c in
     let t = s in
-    stop-missing t.loop-out.invariant.0 s.scan-scanned.ensures t.loop-out-test.true c.taken-1.given.1 c.stopped.ensures
+    stop-missing t.loop-out.invariant.0 s.scan-scanned.ensures t.loop-out-test.true c.in-Missing.is c.stopped.ensures
 
 returns-2 : tie.Need-returns-in-Over invariant-loop decreases-loop
 returns-2 c =
     let s = c in
     let t = s in
-    stop-over t.loop-out.invariant.0 s.scan-scanned.ensures t.loop-out-test.true c.enum_told-1.given.1 c.stopped-in-Over.ensures
+    stop-over t.loop-out.invariant.0 s.scan-scanned.ensures t.loop-out-test.true c.in-Over.is c.stopped-in-Over.ensures
 
 returns-3 : tie.Need-returns-in-Bad invariant-loop decreases-loop
 returns-3 c =
     let b = c in
     let s = b in
     let t = s in
-    stop-bad t.loop-out.invariant.0 s.scan-scanned.ensures t.loop-out-test.true b.enum_told-in-Bad-1.given.1
+    stop-bad t.loop-out.invariant.0 s.scan-scanned.ensures t.loop-out-test.true b.in-Bad.is
     b.bad_line.ensures c.stopped-in-Bad.ensures
 
 cast-open : tie.Need-overflow_cast-t invariant-loop decreases-loop
 cast-open c =
     let s = c in
-    omega (arith, small-t s.loop-out.invariant.0 s.scan-scanned.ensures c.taken-in-Opened-1.given.1)
+    omega (arith, small-t s.loop-out.invariant.0 s.scan-scanned.ensures c.in-Opened.is)
 
 frame-lines-requires : tie.Need-frame_lines-size-requires invariant-loop decreases-loop
 frame-lines-requires c κs =

@@ -10,7 +10,7 @@ use Rattle.decimal.proofs.Laid.{no_number, resaid}
 use Rattle.listing_lines.specs.Text.{longest_line}
 use Rattle.listing.specs.Listing.{packets_text}
 use Rattle.rules.specs.Packets.{total}
-use Rattle.listing.specs.Contracts.{cut}
+use Rattle.listing.specs.Promised.{cut}
 use Rattle.listing.proofs.Packets.{next-from, next-inside, one-packet-more}
 use Rattle.listing.proofs.packet_lines.Statement.{statement}
 use Rattle.listing.proofs.packet_lines.Tie as tie

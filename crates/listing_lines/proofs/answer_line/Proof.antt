@@ -30,7 +30,7 @@ returns-2 c =
     let c8 = c7 in
     let c11 = c8 in
     line-put c11.args.out.now c11.args.at c8.no_room.ensures c7.if-no_room.false
-    (accepted-line _ c5.answer-1.given.1 c.accepted.ensures)
+    (accepted-line _ c5.in-Accepted.is c.accepted.ensures)
 
 returns-3 : tie.Need-returns-in-Refused
 returns-3 c =
@@ -39,7 +39,7 @@ returns-3 c =
     let c8 = c7 in
     let c11 = c8 in
     line-put c11.args.out.now c11.args.at c8.no_room.ensures c7.if-no_room.false
-    (refused-line _ c5.answer-in-Refused-1.given.1 c.refused.ensures)
+    (refused-line _ c5.in-Refused.is c.refused.ensures)
 
 pub answer_line_spec : {M : Type 1} → statement M
 answer_line_spec =

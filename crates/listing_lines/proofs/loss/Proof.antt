@@ -5,10 +5,10 @@ use Rattle.listing_lines.proofs.loss.Statement.{statement}
 use Rattle.listing_lines.proofs.loss.Tie as tie
 
 returns : tie.Need-returns-in-Unknown
-returns c = unknown-put c.enum_told-1.given.1 c.mark.ensures
+returns c = unknown-put c.in-Unknown.is c.mark.ensures
 
 returns-2 : tie.Need-returns-in-Known
-returns-2 c = known-put c.lost-1.given.1 c.number.ensures
+returns-2 c = known-put c.in-Known.is c.number.ensures
 
 pub loss_spec : {M : Type 1} → statement M
 loss_spec =

@@ -30,7 +30,7 @@ returns-2 c =
     let c8 = c7 in
     let c11 = c8 in
     line-put c11.args.out.now c11.args.at c8.no_room.ensures c7.if-no_room.false
-    (taken-line _ _ _ c5.read-1.given.1 c.taken.ensures)
+    (taken-line _ _ _ c5.in-Packet.is c.taken.ensures)
 
 returns-3 : tie.Need-returns-in-Refused
 returns-3 c =
@@ -39,7 +39,7 @@ returns-3 c =
     let c8 = c7 in
     let c11 = c8 in
     line-put c11.args.out.now c11.args.at c8.no_room.ensures c7.if-no_room.false
-    (turned-away-line _ _ _ c5.read-in-Refused-1.given.1 c.turned_away.ensures)
+    (turned-away-line _ _ _ c5.in-Refused.is c.turned_away.ensures)
 
 pub packet_line_spec : {M : Type 1} → statement M
 packet_line_spec =

@@ -21,7 +21,7 @@ returns-3 : tie.Need-returns-in-Kept
 returns-3 c =
     let t = c in
     let a = t.args in
-    frame-kept a.kept.now a.window.now t.taken-in-Kept-1.given.1 c.part-in-Kept.ensures
+    frame-kept a.kept.now a.window.now t.in-Kept.is c.part-in-Kept.ensures
 
 returns-4 : tie.Need-returns-in-Missing
 returns-4 c =

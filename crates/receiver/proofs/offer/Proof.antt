@@ -8,7 +8,7 @@ returns : tie.Need-returns-in-Refused
 returns c =
     let t = c in
     let a = t.args in
-    offers-refused a.session a.kept.now a.window.now a.taken t.taken-1.given.1 c.turn_away-stepped.ensures
+    offers-refused a.session a.kept.now a.window.now a.taken t.in-Refused.is c.turn_away-stepped.ensures
 
 returns-2 : tie.Need-returns-in_default
 returns-2 c =

@@ -12,13 +12,13 @@ unfolding stream_taken
 returns c = sym (ap (λ (n : ℕ). stream_taken n c.args.found) c.if-size-eq0.true)
 
 returns-2 : tie.Need-returns-in-Nothing
-returns-2 c = sym (at-hand _ c.if-size-eq0.false _ ∙ ap stretch_taken c.enum_told-1.given.1)
+returns-2 c = sym (at-hand _ c.if-size-eq0.false _ ∙ ap stretch_taken c.in-Nothing.is)
 
 returns-3 : tie.Need-returns-in-Frame
-returns-3 c = sym (at-hand _ c.if-size-eq0.false _ ∙ ap stretch_taken c.found-1.given.1)
+returns-3 c = sym (at-hand _ c.if-size-eq0.false _ ∙ ap stretch_taken c.in-Frame.is)
 
 returns-4 : tie.Need-returns-in-Refused
-returns-4 c = sym (at-hand _ c.if-size-eq0.false _ ∙ ap stretch_taken c.found-in-Refused-1.given.1)
+returns-4 c = sym (at-hand _ c.if-size-eq0.false _ ∙ ap stretch_taken c.in-Refused.is)
 
 pub stream_told_spec : {M : Type 1} → statement M
 stream_told_spec =

@@ -6,13 +6,13 @@ use Rattle.source.proofs.told.Statement.{statement}
 use Rattle.source.proofs.told.Tie as tie
 
 returns : tie.Need-returns-in-Missing
-returns c = sym (ap taken_of c.section-1.given.1)
+returns c = sym (ap taken_of c.in-Missing.is)
 
 returns-4 : tie.Need-returns-in-Opened
-returns-4 c = sym (ap taken_of c.section-in-Opened-1.given.1)
+returns-4 c = sym (ap taken_of c.in-Opened.is)
 
 returns-6 : tie.Need-returns-in-Here
-returns-6 c = sym (ap taken_of c.section-in-Here-1.given.1)
+returns-6 c = sym (ap taken_of c.in-Here.is)
 
 pub told_spec : {M : Type 1} → statement M
 told_spec =

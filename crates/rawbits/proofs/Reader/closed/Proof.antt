@@ -1,25 +1,28 @@
+use mathlib.Core.Path.{ap}
+use mathlib.Core.Bool.{not}
 use borrow.Author.Rules.{rules}
+use borrow.Author.Tests.{eq-eqb, ne_eqb}
 use Rattle.rawbits.proofs.Steps.{closes_unseen, closes_abandoned, closes_odd, closes_empty, closes_frame}
 use Rattle.rawbits.proofs.Reader.closed.Statement.{statement}
 use Rattle.rawbits.proofs.Reader.closed.Tie as tie
 
 returns-3 : tie.Need-returns-then-odd
-returns-3 c = closes_odd _ _ c.if-not-self.false c.if-abandoned.false c.if-odd.true
+returns-3 c = closes_odd _ _ c.if-not-self.false c.if-abandoned.false (ap not (ne_eqb _ _ c.if-odd.true))
 
 returns-4 : tie.Need-returns-then-whole-eq0
 returns-4 c =
     let m = c in
-    closes_empty _ _ m.if-not-self.false m.if-abandoned.false c.if-odd.false c.if-whole-eq0.true
+    closes_empty _ _ m.if-not-self.false m.if-abandoned.false (ap not (eq-eqb _ _ c.if-odd.false)) c.if-whole-eq0.true
 
 returns-5 : tie.Need-returns-then-whole-most
 returns-5 c =
     let m = c in
-    closes_frame _ _ m.if-not-self.false m.if-abandoned.false _ m.if-odd.false c.if-whole-eq0.false (search rules)
+    closes_frame _ _ m.if-not-self.false m.if-abandoned.false _ (ap not (eq-eqb _ _ m.if-odd.false)) c.if-whole-eq0.false (search rules)
 
 returns-6 : tie.Need-returns
 returns-6 c =
     let m = c in
-    closes_frame _ _ m.if-not-self.false m.if-abandoned.false _ m.if-odd.false c.if-whole-eq0.false (search rules)
+    closes_frame _ _ m.if-not-self.false m.if-abandoned.false _ (ap not (eq-eqb _ _ m.if-odd.false)) c.if-whole-eq0.false (search rules)
 
 pub closed_spec : {M : Type 1} → statement M
 closed_spec =

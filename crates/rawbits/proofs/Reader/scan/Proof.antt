@@ -1,4 +1,5 @@
-use mathlib.Core.Path.{refl}
+use mathlib.Core.Path.{refl, ap}
+use mathlib.Core.Bool.{not}
 use Prim.Native.Nat.{◌-◌}
 use lib.ListN.{length}
 use borrow.Author.Rules.{rules}
@@ -23,7 +24,7 @@ returns : tie.Need-returns-then-not-nothing invariant-loop decreases-loop
 returns c =
     let m = c in
     let n = m in
-    scans-told n.loop-i.invariant.1 n.loop-i-test.true m.octet-next.ensures c.nothing.ensures c.if-not-nothing.true
+    scans-told n.loop-i.invariant.1 n.loop-i-test.true m.octet-next.ensures c.nothing.ensures (ap not c.if-not-nothing.true)
 
 loop-again : tie.Need-loop-i-preserved invariant-loop decreases-loop
 loop-again c =
@@ -31,7 +32,7 @@ loop-again c =
     let n = m in (
       n.loop-i.invariant.0,
       scans-next n.loop-i.invariant.1 n.loop-i-test.true m.octet-next.ensures c.nothing.ensures
-          c.if-not-nothing.false,
+          (ap not c.if-not-nothing.false),
     )
 
 pub scan_spec : {M : Type 1} → statement M

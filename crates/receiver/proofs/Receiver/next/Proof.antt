@@ -8,24 +8,24 @@ use Rattle.receiver.proofs.Receiver.next.Statement.{statement}
 use Rattle.receiver.proofs.Receiver.next.Tie as tie
 
 cast-open : tie.Need-overflow_cast-t
-cast-open c = omega (arith, small-t c.scan-scanned.ensures c.taken-in-Opened-1.given.1)
+cast-open c = omega (arith, small-t c.scan-scanned.ensures c.in-Opened.is)
 
 returns : tie.Need-returns-in-Missing
-returns c = gives-quiet _ c.scan-scanned.ensures (event.Missing _) c.taken-1.given.1 refl
+returns c = gives-quiet _ c.scan-scanned.ensures (event.Missing _) c.in-Missing.is refl
 
 returns-2 : tie.Need-returns-in-Bad
-returns-2 c = gives-quiet _ c.scan-scanned.ensures event.Bad c.enum_told-1.given.1 refl
+returns-2 c = gives-quiet _ c.scan-scanned.ensures event.Bad c.in-Bad.is refl
 
 returns-3 : tie.Need-returns-in-Over
-returns-3 c = gives-quiet _ c.scan-scanned.ensures event.Over c.enum_told-in-Over-1.given.1 refl
+returns-3 c = gives-quiet _ c.scan-scanned.ensures event.Over c.in-Over.is refl
 
 returns-4 : tie.Need-returns-in-Opened
 returns-4 c =
     let t = c in
-    gives-opened _ t.scan-scanned.ensures t.taken-in-Opened-1.given.1 c.open-opened.ensures.session
+    gives-opened _ t.scan-scanned.ensures t.in-Opened.is c.open-opened.ensures.session
 
 returns-5 : tie.Need-returns-in-Nothing
-returns-5 c = gives-quiet _ c.scan-scanned.ensures event.Nothing c.enum_told-in-Nothing-1.given.1 refl
+returns-5 c = gives-quiet _ c.scan-scanned.ensures event.Nothing c.in-Nothing.is refl
 
 returns-6 : tie.Need-returns-in-Here
 returns-6 c =

@@ -13,22 +13,22 @@ returns-2 : tie.Need-returns-then-left-eq0
 returns-2 c = scan-more _ _ c.if-left-eq0.true c.if-window-eq0.false c.stopped.ensures
 
 add-to : tie.Need-overflow_add-to
-add-to c = omega (arith, small-frame _ c.n-in-Whole-1.given.1 c.frame.ensures)
+add-to c = omega (arith, small-frame _ c.in-Whole.is c.frame.ensures)
 
 returns-3 : tie.Need-returns-in-Missing
 returns-3 c =
     let m = c in
-    told-missing _ refl (m.frame.ensures ∙ still _ _ m.if-left-eq0.false) c.n-1.given.1 c.waits-in-Missing.ensures
+    told-missing _ refl (m.frame.ensures ∙ still _ _ m.if-left-eq0.false) c.in-Missing.is c.waits-in-Missing.ensures
 
 returns-4 : tie.Need-returns-in-Bad
 returns-4 c =
     let m = c in
-    told-bad _ refl (m.frame.ensures ∙ still _ _ m.if-left-eq0.false) c.enum_told-1.given.1 c.stopped-in-Bad.ensures
+    told-bad _ refl (m.frame.ensures ∙ still _ _ m.if-left-eq0.false) c.in-Bad.is c.stopped-in-Bad.ensures
 
 returns-5 : tie.Need-returns-in-Whole
 returns-5 c =
     let m = c in
-    told-whole _ refl (m.frame.ensures ∙ still _ _ m.if-left-eq0.false) c.n-in-Whole-1.given.1
+    told-whole _ refl (m.frame.ensures ∙ still _ _ m.if-left-eq0.false) c.in-Whole.is
 
 pub frames_spec : {M : Type 1} → statement M
 frames_spec =

@@ -55,7 +55,7 @@ returns-2 c =
     let a = (start e).args in
     gives e _ _ _
     (not_read (counted a.t1) a.frame.now (room (start e)) c.refusal-1.given.0.0
-    (sym (ap told c.refusal-1.given.1) ∙ c.read.ensures))
+    (sym (ap told c.in-Refused.is) ∙ c.read.ensures))
 
 -- ---- an accepted frame
 

@@ -6,17 +6,17 @@ use Rattle.source.proofs.Source.scan.Statement.{statement}
 use Rattle.source.proofs.Source.scan.Tie as tie
 
 returns : tie.Need-returns-in-Recording
-returns c = section-scans c.self-1.given.1 c.scan-scanned.ensures c.told-taken.ensures
+returns c = section-scans c.in-Recording.is c.scan-scanned.ensures c.told-taken.ensures
 
 returns-2 : tie.Need-returns-in-Kiss
 returns-2 c =
     let c5 = c in
-    kiss_scans c5.self-in-Kiss-1.given.1 c.scan-scanned-in-Kiss.ensures c.stream_told-taken.ensures
+    kiss_scans c5.in-Kiss.is c.scan-scanned-in-Kiss.ensures c.stream_told-taken.ensures
 
 returns-3 : tie.Need-returns-in-Bits
 returns-3 c =
     let c5 = c in
-    bits-scans c5.self-in-Bits-1.given.1 c.scan-scanned-in-Bits.ensures c.stream_told-taken-in-Bits.ensures
+    bits-scans c5.in-Bits.is c.scan-scanned-in-Bits.ensures c.stream_told-taken-in-Bits.ensures
 
 pub scan_spec : {M : Type 1} → statement M
 scan_spec =
