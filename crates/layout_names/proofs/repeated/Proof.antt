@@ -38,7 +38,7 @@ returns c =
     let names = names_of a.text.now a.froms.now a.tos.now in
     sym (l.invariant ∙ in_here (layout names a.starts.now) l.i a.n p6.loop-i-test.true
     (found_as names a.starts.now l.i p3.element-from.ensures p3.element-to.ensures p3.within.ensures
-    c.k-1.given.1))
+    c.in-Entry.is))
 
 loop-again : tie.Need-loop-i-preserved invariant-loop decreases-loop
 loop-again c =
@@ -49,7 +49,7 @@ loop-again c =
     let names = names_of a.text.now a.froms.now a.tos.now in
     l.invariant ∙ in_later (layout names a.starts.now) l.i a.n p5.loop-i-test.true
     (found_as names a.starts.now l.i p2.element-from.ensures p2.element-to.ensures p2.within.ensures
-    c.enum_told-1.given.1)
+    c.in_default.is)
 
 returns-2 : tie.Need-returns invariant-loop decreases-loop
 returns-2 c =
