@@ -54,7 +54,7 @@ returns-2 c =
     let e = c.before.before.before.before in
     let a = (start e).args in
     gives e _ _ _
-    (not_read (counted a.t1) a.frame.now (room (start e)) c.refusal-1.given.0.0
+    (not_read (counted a.t1) a.frame.now (room (start e)) c.in-Refused.refusal
     (sym (ap told c.in-Refused.is) ∙ c.read.ensures))
 
 -- ---- an accepted frame
@@ -64,27 +64,27 @@ passed c = c.before.before.before.before.before
 
 -- what is known of it
 seen : (c : tie.After-struct_known-1) → Accepted (start (passed c)).args.t1.t (start (passed c)).args.frame.now
-    c.f-1.given.0.0
+    c.in-Frame.f
 seen c =
     let a = (start (passed c)).args in
     let f = c.f-1.given in
     accepts a.t1.t a.frame.now f.0.0 (sym (sym (ap told f.1) ∙ c.read.ensures))
 
 -- its channel is one of the eight
-low : (c : tie.After-struct_known-1) → c.f-1.given.0.0.channel < 8
+low : (c : tie.After-struct_known-1) → c.in-Frame.f.channel < 8
 low c = let w = seen c in omega arith
 
 eight : (c : tie.Else-bar-ne0) → length (start c).args.self.channels ≡ 8
 eight c = search (rules, length_mapped)
 
-one : (c : tie.After-struct_known-1) → c.f-1.given.0.0.channel < length (start (passed c)).args.t1.channels
+one : (c : tie.After-struct_known-1) → c.in-Frame.f.channel < length (start (passed c)).args.t1.channels
 one c = omega (arith, eight (passed c), low c)
 
 heed-requires : tie.Need-heed-heeded-requires
 heed-requires c κs =
     let d = c.«data» in
     let w = c.before.before.before.before.before.before in
-    let f = w.f-1.given.0.0 in
+    let f = w.in-Frame.f in
     let p = admitted (passed w) in
     let a = (start (passed w)).args in
     asked a.t1.t a.frame.now (room (start (passed w))) p.room f
