@@ -9,6 +9,7 @@ use std::os::fd::AsRawFd;
 
 // Standard error's descriptor.
 const STDERR_FILENO: i32 = 2;
+
 // What loading the file came to.
 #[derive(Clone, Copy)]
 pub(crate) enum Loaded {

@@ -2,6 +2,7 @@
 
 // Standard output's descriptor.
 const STDOUT_FILENO: i32 = 1;
+
 // Prints text.
 pub fn say(s: &[u8]) {
     io::write_all(STDOUT_FILENO, s);

@@ -8,6 +8,7 @@ use std::io::{Cursor, Error, Write};
 
 // Standard error's descriptor.
 const STDERR_FILENO: i32 = 2;
+
 // Says a line.
 pub fn say(name: &[u8], what: &[u8]) {
     io::write_all(STDERR_FILENO, name);

@@ -31,7 +31,7 @@ loop-again : tie.Need-loop-reading-preserved invariant-loop decreases-loop
 loop-again c =
     let l = c.loop-reading in
     let t = c.more-reading in (
-      t.auto.1.1.1.0 ∙ l.invariant.0,
+      t.auto.buffer ∙ l.invariant.0,
       omega (arith, l.invariant.1, c.if-made.false),
       one_more l.invariant.2 c.loop-reading-test.true (record { grows = t.ensures; silent = refl }),
     )

@@ -51,11 +51,11 @@ loop-again c =
     let c19 = c18 in
     let t = c10.turn-state in
     let l = c19.loop-state in (
-      t.auto.1.1.1.1.0 ∙ l.invariant.0,
-      t.auto.1.1.1.1.1.0 ∙ l.invariant.1,
-      t.auto.1.1.1.1.1.1.1.0 ∙ l.invariant.2,
-      t.auto.1.1.1.1.1.1.1.1.0 ∙ l.invariant.3,
-      t.auto.1.1.1.1.1.1.1.1.1.0 ∙ l.invariant.4,
+      t.auto.input ∙ l.invariant.0,
+      t.auto.rows ∙ l.invariant.1,
+      t.auto.octets ∙ l.invariant.2,
+      t.auto.lengths ∙ l.invariant.3,
+      t.auto.firsts ∙ l.invariant.4,
       omega (arith, l.invariant.5, c17.if-made.false),
       one_more l.invariant.6 c18.loop-state-test.true (record { turned = t.ensures; silent = refl }),
     )

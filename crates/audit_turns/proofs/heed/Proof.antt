@@ -14,7 +14,7 @@ returns-2 c =
     let c5 = c in
     let c11 = c5 in
     let a = c11.args in
-    heeds-frame a.audit a.rows.now a.octets.now a.lengths.now c5.pull-1.given.1 c.frame-next.ensures
+    heeds-frame a.audit a.rows.now a.octets.now a.lengths.now c5.in-Answered.is c.frame-next.ensures
 
 returns-3 : tie.Need-returns-in-Bad
 returns-3 c =
@@ -26,7 +26,7 @@ returns-4 c =
     let c4 = c in
     let c10 = c4 in
     let a = c10.args in
-    heeds-end a.audit a.rows.now a.octets.now a.lengths.now c4.enum_told-1.given.1 c.ended-next.ensures
+    heeds-end a.audit a.rows.now a.octets.now a.lengths.now c4.in-End.is c.ended-next.ensures
 
 pub heed_spec : {M : Type 1} → statement M
 heed_spec =

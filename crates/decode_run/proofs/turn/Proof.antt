@@ -11,7 +11,7 @@ add-from c =
     let p7 = p4 in
     let p13 = p7 in
     let a = p13.args in
-    let g = p13.well-formed in
+    let g = p13.well_formed in
     let u = used-left a.state a.input.now a.kept.now p7.hand.ensures p4.next-listed.ensures in
     omega (arith, u, g.1.1.0, g.1.1.1.1.1.0)
 
@@ -45,7 +45,7 @@ returns-2 c =
     turned-full a.state a.input.now a.kept.now p14.hand.ensures
     p11.next-listed.ensures p5.emit-written.result p5.emit-written.ensures
     (sym p3.failed.ensures ∙ p2.if-failed.false) p4.none-read.ensures p20.requires
-    c.enum_told-1.given.1
+    c.in-Full.is
 
 returns-3 : tie.Need-returns-in-Over
 returns-3 c =
@@ -60,7 +60,7 @@ returns-3 c =
     turned-over a.state a.input.now a.kept.now p14.hand.ensures
     p11.next-listed.ensures p5.emit-written.result p5.emit-written.ensures
     (sym p3.failed.ensures ∙ p2.if-failed.false) p4.none-read.ensures
-    c.enum_told-in-Over-1.given.1
+    c.in-Over.is
 
 returns-4 : tie.Need-returns-in-Missing
 returns-4 c =
@@ -77,7 +77,7 @@ returns-4 c =
     turned_more a.state a.input.now a.kept.now p21.hand.ensures
     p18.next-listed.ensures p12.emit-written.result p12.emit-written.ensures
     (sym p10.failed.ensures ∙ p9.if-failed.false)
-    p5.refill-read.ensures p7.enum_told-in-Missing-1.given.1
+    p5.refill-read.ensures p7.in-Missing.is
     p2.have.ensures c.came.ensures c.failed-in-Missing.ensures
 
 pub turn_spec : {M : Type 1} → statement M

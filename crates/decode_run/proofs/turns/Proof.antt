@@ -40,8 +40,8 @@ loop-again c =
     let p15 = p14 in
     let t = p5.turn-state in
     let l = p15.loop-state in (
-      t.auto.1.1.0 ∙ l.invariant.0,
-      t.auto.1.1.1.1.0 ∙ l.invariant.1,
+      t.auto.input ∙ l.invariant.0,
+      t.auto.out ∙ l.invariant.1,
       omega (arith, l.invariant.2, p13.if-made.false),
       gone_on l.invariant.3 p14.loop-state-test.true t.ensures,
     )

@@ -10,7 +10,7 @@ returns c =
     let s = c5 in
     let a = s.args in
     let small : length a.frame.now % 65536 ≡ length a.frame.now = omega (arith, s.requires.short) in
-    handed a.t a.frame.now a.out.now s.requires (ap (λ (k : ℕ). k ∷ []) small) c5.write.ensures c.n-1.given.1
+    handed a.t a.frame.now a.out.now s.requires (ap (λ (k : ℕ). k ∷ []) small) c5.write.ensures c.in-Length.is
 
 returns-2 : tie.Need-returns-in-Refused
 returns-2 c =
@@ -19,7 +19,7 @@ returns-2 c =
     let a = s.args in
     let small : length a.frame.now % 65536 ≡ length a.frame.now = omega (arith, s.requires.short) in
     left_out a.t a.frame.now a.out.now s.requires (ap (λ (k : ℕ). k ∷ []) small) c5.write.ensures
-    c.refusal-1.given.1
+    c.in-Refused.is
 
 pub hand_on_spec : {M : Type 1} → statement M
 hand_on_spec =

@@ -8,7 +8,7 @@ sub-n : tie.Need-overflow_sub-n
 sub-n c =
     let p5 = c in
     let a = p5.args in
-    in_order a.both a.t a.frames a.hand.now c.taken-in-Here-1.given.1 p5.requires.sound
+    in_order a.both a.t a.frames a.hand.now c.in-Here.is p5.requires.sound
 
 hand-on-requires : tie.Need-hand_on-handed-requires
 hand-on-requires c κs =
@@ -17,7 +17,7 @@ hand-on-requires c κs =
     let a = p7.args in
     let p = p7.requires in
     record {
-      short = few-octets a.both a.t a.frames a.hand.now p3.taken-in-Here-1.given.1 p.sound c.part.ensures;
+      short = few-octets a.both a.t a.frames a.hand.now p3.in-Here.is p.sound c.part.ensures;
       room = p.room;
     }
 
@@ -26,7 +26,7 @@ returns c =
     let p5 = c in
     let a = p5.args in
     let p = p5.requires in
-    opened a.both a.t a.frames a.hand.now a.out.now c.taken-1.given.1 p.sound p.room
+    opened a.both a.t a.frames a.hand.now a.out.now c.in-Opened.is p.sound p.room
 
 returns-2 : tie.Need-returns-in-Here
 returns-2 c =
@@ -35,7 +35,7 @@ returns-2 c =
     let p8 = p6 in
     let p12 = p8 in
     let a = p12.args in
-    handed-on a.both a.t a.frames a.hand.now p8.taken-in-Here-1.given.1 p12.requires.sound
+    handed-on a.both a.t a.frames a.hand.now p8.in-Here.is p12.requires.sound
     p6.part.ensures p4.hand_on-handed.ensures
     c.wrapping_add_u64.ensures c.first.ensures
 

@@ -14,7 +14,7 @@ returns c =
     let p7 = p6 in
     let p12 = p7 in
     read-on p12.args.both p7.hand.ensures p6.scan-scanned.ensures
-    p4.enum_told-1.given.1 p2.more.ensures
+    p4.in-Missing.is p2.more.ensures
 
 add-from : tie.Need-overflow_add-from
 add-from c =
@@ -22,7 +22,7 @@ add-from c =
     let p3 = p2 in
     let p8 = p3 in
     let a = p8.args in
-    let g = p8.well-formed in
+    let g = p8.well_formed in
     omega (arith, used-left a.state a.input.now p3.hand.ensures p2.scan-scanned.ensures, g.1.1.1.0, g.1.1.1.1.1.0)
 
 section-requires : tie.Need-section-led-requires
@@ -68,7 +68,7 @@ returns-2 c =
     let a = p27.args in
     went_on a.state a.input.now p22.hand.ensures
     p21.scan-scanned.ensures a.both p15.hand-2.ensures
-    p13.section-led.result p13.section-led.new.1.1.1.1.1.0
+    p13.section-led.result p13.section-led.new.out
     p13.section-led.ensures p18.wrapping_add_u64-passed.result
     p7.hand-3.ensures p6.emit-written.result p6.emit-written.ensures
     p5.failed-well.ensures p4.none-read.ensures

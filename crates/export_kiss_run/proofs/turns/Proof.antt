@@ -36,8 +36,8 @@ loop-again c =
     let p9 = p8 in
     let t = p4.turn-state in
     let l = p9.loop-state in (
-      t.auto.1.1.1.0 ∙ l.invariant.0,
-      t.auto.1.1.1.1.0 ∙ l.invariant.1,
+      t.auto.input ∙ l.invariant.0,
+      t.auto.out ∙ l.invariant.1,
       omega (arith, l.invariant.2, p7.if-made.false),
       gone_on l.invariant.3 p8.loop-state-test.true t.ensures,
     )

@@ -15,22 +15,22 @@ returns : tie.Need-returns-then-n-ne0
 returns c =
     let k = c in
     let w = k.args.rest.now in
-    at-reader w (c.frame.ensures ∙ frames-cut w _ c.if-n-ne0.true) k.reader-1.given.1
+    at-reader w (c.frame.ensures ∙ frames-cut w _ c.if-n-ne0.true) k.in-Frames.is
 
 returns-2 : tie.Need-returns-then-rest-eq0
 returns-2 c =
     let k = c in
     let w = k.args.rest.now in
-    at-reader w (frames-end w _ c.if-n-ne0.false c.if-rest-eq0.true) k.reader-1.given.1
+    at-reader w (frames-end w _ c.if-n-ne0.false c.if-rest-eq0.true) k.in-Frames.is
 
 returns-3 : tie.Need-returns-in-Settings
-returns-3 c = at-reader c.args.rest.now c.settings.ensures c.enum_told-1.given.1
+returns-3 c = at-reader c.args.rest.now c.settings.ensures c.in-Settings.is
 
 returns-5 : tie.Need-returns-else-rest-eq0
 returns-5 c =
     let k = c in
     let w = k.args.rest.now in
-    at-reader w (frames-behind w _ c.if-n-ne0.false c.if-rest-eq0.false) k.reader-1.given.1
+    at-reader w (frames-behind w _ c.if-n-ne0.false c.if-rest-eq0.false) k.in-Frames.is
 
 pub cause_spec : {M : Type 1} → statement M
 cause_spec =

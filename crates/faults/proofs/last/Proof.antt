@@ -1,6 +1,5 @@
 -- `last` stops at the first section that is not whole.
 use Rattle.std.proofs.Common.{◌-◌, ◌≤◌, length, drop, sym, refl, ◌∙◌, arith, length-drop, rules}
-use borrow.Author.Tests.{not-true, not-false}
 use Rattle.faults.specs.Why.{stops_at}
 use Rattle.faults.proofs.Stopping.{Before, stops-empty, used-inside, used-more, stops, turns}
 use Rattle.faults.proofs.last.Statement.{statement}
@@ -20,7 +19,7 @@ returns : tie.Need-returns-then-not-whole invariant-loop decreases-loop
 returns c =
     let k = c in
     stops k.args.window.now k.loop-at.at _ _ c.scan-scanned.ensures k.loop-at.invariant.1
-    (sym c.whole.ensures ∙ not-true _ c.if-not-whole.true)
+    (sym c.whole.ensures ∙ c.if-not-whole.true)
 
 add_at : tie.Need-overflow_add-at invariant-loop decreases-loop
 add_at c =
@@ -36,7 +35,7 @@ loop-less c =
     let i = used-inside k.args.window.now k.loop-at.at _ _ e k.loop-at.invariant.0 in
     let m =
     used-more k.args.window.now k.loop-at.at _ _ e
-    (sym c.whole.ensures ∙ not-false _ c.if-not-whole.false) in
+    (sym c.whole.ensures ∙ c.if-not-whole.false) in
     omega (arith, i, m)
 
 loop-again : tie.Need-loop-at-preserved invariant-loop decreases-loop
@@ -47,7 +46,7 @@ loop-again c =
     let e = c3.scan-scanned.ensures in (
       used-inside k.args.window.now k.loop-at.at _ _ e k.loop-at.invariant.0,
       turns k.args.window.now k.loop-at.at _ _ e k.loop-at.invariant.1 c5.loop-at-test.true
-          (sym c.whole.ensures ∙ not-false _ c.if-not-whole.false),
+          (sym c.whole.ensures ∙ c.if-not-whole.false),
     )
 
 returns-2 : tie.Need-returns invariant-loop decreases-loop

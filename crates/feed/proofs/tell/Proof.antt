@@ -9,7 +9,7 @@ returns : tie.Need-returns-in-Missing
 returns c =
     let c4 = c in
     let a = c4.args in
-    told-missing a.input.now a.from a.end a.passed a.before c4.enum_told-1.given.1 c.more.ensures
+    told-missing a.input.now a.from a.end a.passed a.before c4.in-Missing.is c.more.ensures
 
 returns-2 : tie.Need-returns-in-Bad
 returns-2 c =
@@ -17,35 +17,35 @@ returns-2 c =
     let p = c3 in
     let a = p.args in
     told a.input.now a.from a.end a.passed a.before event.Bad p.none-read.ensures p.none-read.ensures
-    c3.enum_told-in-Bad-1.given.1
+    c3.in-Bad.is
 
 returns-3 : tie.Need-returns-in-Over
 returns-3 c =
     let p = c in
     let a = p.args in
     told a.input.now a.from a.end a.passed a.before event.Over p.none-read.ensures p.none-read.ensures
-    c.enum_told-in-Over-1.given.1
+    c.in-Over.is
 
 returns-4 : tie.Need-returns-in-Opened
 returns-4 c =
     let p = c in
     let a = p.args in
     told a.input.now a.from a.end a.passed a.before event.Opened p.none-read.ensures p.none-read.ensures
-    c.enum_told-in-Opened-1.given.1
+    c.in-Opened.is
 
 returns-5 : tie.Need-returns-in-Nothing
 returns-5 c =
     let p = c in
     let a = p.args in
     told a.input.now a.from a.end a.passed a.before event.Nothing p.none-read.ensures p.none-read.ensures
-    c.enum_told-in-Nothing-1.given.1
+    c.in-Nothing.is
 
 returns-6 : tie.Need-returns-in-Answered
 returns-6 c =
     let p = c in
     let a = p.args in
     told a.input.now a.from a.end a.passed a.before (event.Answered _) p.none-read.ensures p.none-read.ensures
-    c.event-1.given.1
+    c.in-Answered.is
 
 pub tell_spec : {M : Type 1} → statement M
 tell_spec =

@@ -18,12 +18,12 @@ loop-holds c = none-listed _ _ (search rules)
 returns : tie.Need-returns-in_default invariant-loop decreases-loop
 returns c =
     let l = c.loop-i in
-    wrong-listed _ l.list l.at l.i l.invariant (search rules) c.read.ensures c.enum_told-1.given.1
+    wrong-listed _ l.list l.at l.i l.invariant (search rules) c.read.ensures c.in_default.is
 
 loop-again : tie.Need-loop-i-preserved invariant-loop decreases-loop
 loop-again c =
     let l = c.loop-i in
-    one-listed _ l.list l.at l.i l.invariant (search rules) c.read.ensures c.n-1.given.1
+    one-listed _ l.list l.at l.i l.invariant (search rules) c.read.ensures c.in-Read.is
 
 returns-2 : tie.Need-returns invariant-loop decreases-loop
 returns-2 c = all_listed _ c.loop-i.list c.loop-i.at c.loop-i.i c.loop-i.invariant c.loop-i-test.false

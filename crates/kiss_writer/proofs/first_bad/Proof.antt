@@ -33,7 +33,7 @@ returns c =
 loop-again : tie.Need-loop-i-preserved invariant-loop decreases-loop
 loop-again c =
     let l = c in
-    good-next l.loop-i.invariant l.loop-i-test.true _ _ c.read.ensures c.enum_told-1.given.1
+    good-next l.loop-i.invariant l.loop-i-test.true _ _ c.read.ensures c.in-Frame.is
 
 returns-2 : tie.Need-returns invariant-loop decreases-loop
 returns-2 c = good-end c.loop-i.invariant c.loop-i-test.false

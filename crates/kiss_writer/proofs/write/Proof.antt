@@ -24,14 +24,14 @@ all-escapes-requires c κs =
     let f = c in
     let w = f in
     frames-good _ _ _ w.args.out.now w.if-t-gt-LONGEST_TIME.false w.wrong.ensures
-    f.if-wrong.false f.first_bad.ensures c.enum_told-1.given.1
+    f.if-wrong.false f.first_bad.ensures c.in-Length.is
 
 returns-3 : tie.Need-returns-then-room-n
 returns-3 c =
     let c3 = c in
     let f = c3 in
     let w = f in
-    refuses_50 _ _ _ _ w.if-t-gt-LONGEST_TIME.false w.wrong.ensures f.if-wrong.false f.first_bad.ensures c3.enum_told-1.given.1
+    refuses_50 _ _ _ _ w.if-t-gt-LONGEST_TIME.false w.wrong.ensures f.if-wrong.false f.first_bad.ensures c3.in-Length.is
     c.plain-then-room-n.ensures
     (omega (arith, c.all_escapes-escapes.ensures, c.if-room-n.true))
 
@@ -41,7 +41,7 @@ returns-4 c =
     let c4 = c3 in
     let f = c4 in
     let w = f in
-    refuses_50 _ _ _ _ w.if-t-gt-LONGEST_TIME.false w.wrong.ensures f.if-wrong.false f.first_bad.ensures c4.enum_told-1.given.1
+    refuses_50 _ _ _ _ w.if-t-gt-LONGEST_TIME.false w.wrong.ensures f.if-wrong.false f.first_bad.ensures c4.in-Length.is
     c.plain-then-room-n-2.ensures
     (omega (arith, c3.all_escapes-escapes.ensures, c.if-room-n-2.true))
 
@@ -53,7 +53,7 @@ lay-requires c κs =
     let w = f in
     record {
       frames = frames-good _ _ _ w.args.out.now w.if-t-gt-LONGEST_TIME.false w.wrong.ensures
-          f.if-wrong.false f.first_bad.ensures c4.enum_told-1.given.1;
+          f.if-wrong.false f.first_bad.ensures c4.in-Length.is;
       room = omega (arith, c3.all_escapes-escapes.ensures, c.if-room-n-2.false, c.if-room-n.false);
     }
 
@@ -72,7 +72,7 @@ returns-6 c =
     let f = e in
     let w = f in
     writes _ _ _ _ w.if-t-gt-LONGEST_TIME.false w.wrong.ensures f.if-wrong.false f.first_bad.ensures
-    e.enum_told-1.given.1
+    e.in-Length.is
     (omega (arith, e.all_escapes-escapes.ensures, c4.if-room-n-2.false, c5.if-room-n.false)) c.lay.ensures
 
 pub write_spec : {M : Type 1} → statement M

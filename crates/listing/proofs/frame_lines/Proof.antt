@@ -16,7 +16,7 @@ start c = c.before.before.before.before.before.before
 -- how many packets there are
 many : (c : tie.After-wide) → c.wide.result ≡ (told
     (start c.before.before.before.before.before.before.before).args.answer).fields.packets
-many c = told-packets c.answer-1.given.1 c.wide.ensures
+many c = told-packets c.in-Accepted.is c.wide.ensures
 
 packet-lines-requires : tie.Need-packet_lines-requires
 packet-lines-requires c κs =

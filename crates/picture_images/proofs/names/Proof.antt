@@ -56,7 +56,7 @@ loop-again c =
     let long : length (take a.named images) ≡ a.named = length-take-le a.named images s.requires.held in
     let first : at (take a.named images) l.i ≡ at images l.i = get_or-take a.named images l.i 0 t in (
       omega (arith, t),
-      c.name-next.auto.0 ∙ l.invariant.1,
+      c.name-next.auto.out ∙ l.invariant.1,
       one-named (take a.named images) a.more l.i l.invariant.2 (omega (arith, t, long)) (omega (arith, s.requires.room))
           (p4.number-image.ensures ∙ sym (first ∙ number_at a.images.now l.i (omega (arith, t, s.requires.held))))
           (omega (arith, long)) c.name-next.ensures,

@@ -17,7 +17,7 @@ returns c =
     let p6 = c in
     let s = p6 in
     let n = p6.number-next in
-    told-laid s.args.words.now s.args.n s.args.after s.requires n.auto.0 n.ensures c.put.ensures
+    told-laid s.args.words.now s.args.n s.args.after s.requires n.auto.out n.ensures c.put.ensures
 
 pub told_spec : {M : Type 1} → statement M
 told_spec = tie.close (tie.spec (λ c κs. search rules) (λ c κs. search rules) add-result (λ c. search rules) returns)

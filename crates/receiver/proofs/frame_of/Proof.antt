@@ -9,13 +9,13 @@ returns : tie.Need-returns-then-to-from
 returns c =
     let t = c in
     let a = t.args in
-    frame-none a.kept.now a.window.now t.taken-1.given.1 c.if-to-from.true c.part.ensures
+    frame-none a.kept.now a.window.now t.in-Here.is c.if-to-from.true c.part.ensures
 
 returns-2 : tie.Need-returns-else-to-from
 returns-2 c =
     let t = c in
     let a = t.args in
-    frame_here a.kept.now a.window.now t.taken-1.given.1 c.part-in-Here.ensures
+    frame_here a.kept.now a.window.now t.in-Here.is c.part-in-Here.ensures
 
 returns-3 : tie.Need-returns-in-Kept
 returns-3 c =

@@ -8,10 +8,10 @@ use Rattle.table.proofs.accepted.Statement.{statement}
 use Rattle.table.proofs.accepted.Tie as tie
 
 returns : tie.Need-returns-in-Packet
-returns c = ap (λ (t : Told Packet). t.accepted) (sym (ap told c.enum_told-1.given.1) ∙ c.read.ensures)
+returns c = ap (λ (t : Told Packet). t.accepted) (sym (ap told c.in-Packet.is) ∙ c.read.ensures)
 
 returns-2 : tie.Need-returns-in-Refused
-returns-2 c = ap (λ (t : Told Packet). t.accepted) (sym (ap told c.enum_told-in-Refused-1.given.1) ∙ c.read.ensures)
+returns-2 c = ap (λ (t : Told Packet). t.accepted) (sym (ap told c.in-Refused.is) ∙ c.read.ensures)
 
 pub accepted_spec : {M : Type 1} → statement M
 accepted_spec = tie.close (tie.spec (λ c κs. search rules) (λ c. search rules) (λ c. search rules) returns returns-2)

@@ -1,6 +1,7 @@
 -- `table::against` meets its contract.
 use native.Mathlib.Omega.{arith}
 use mathlib.Core.Path.{ap, ◌∙◌}
+use mathlib.Core.Bool.{not}
 use lib.ListN.{length}
 use Rattle.octets.proofs.Runs.{length_part}
 use Rattle.table.proofs.Reasons.{no_number, no_octets, not_there, too_early_lem, nothing}
@@ -41,7 +42,7 @@ returns-3 c =
     let a = s.args in
     not_there a.head.now a.columns a.row.now a.packet.now a.arrival s.requires.1 w.wide-column.ensures
     p.part-c.ensures p.if-columns-column.false c.if-c-lt2.false
-    c.part.ensures c.stands.ensures c.if-not-stands.true
+    c.part.ensures c.stands.ensures (ap not c.if-not-stands.true)
 
 returns-4 : tie.Need-returns-then-four_at-arrival
 returns-4 c =
@@ -52,7 +53,7 @@ returns-4 c =
     let a = s.args in
     too_early_lem a.head.now a.columns a.row.now a.packet.now a.arrival s.requires.1 w.wide-column.ensures
     p.part-c.ensures p.if-columns-column.false t.if-c-lt2.false
-    t.part.ensures t.stands.ensures t.if-not-stands.false c.four_at.ensures c.if-four_at-arrival.true
+    t.part.ensures t.stands.ensures (ap not t.if-not-stands.false) c.four_at.ensures c.if-four_at-arrival.true
 
 returns-5 : tie.Need-returns
 returns-5 c =
@@ -63,7 +64,7 @@ returns-5 c =
     let a = s.args in
     nothing a.head.now a.columns a.row.now a.packet.now a.arrival s.requires.1 w.wide-column.ensures
     p.part-c.ensures p.if-columns-column.false t.if-c-lt2.false
-    t.part.ensures t.stands.ensures t.if-not-stands.false c.four_at.ensures c.if-four_at-arrival.false
+    t.part.ensures t.stands.ensures (ap not t.if-not-stands.false) c.four_at.ensures c.if-four_at-arrival.false
 
 pub against_spec : {M : Type 1} → statement M
 against_spec =

@@ -24,7 +24,7 @@ returns-3 c =
 lay-frames-requires : tie.Need-lay_frames-requires
 lay-frames-requires c κs =
     let i = c in
-    omega (arith, i.if-room-made-2.false, i.if-room-made.false, i.if-out-lt9.false, c.put.auto.0)
+    omega (arith, i.if-room-made-2.false, i.if-room-made.false, i.if-out-lt9.false, c.put.auto.out)
 
 returns-4 : tie.Need-returns
 returns-4 c =

@@ -29,7 +29,7 @@ loop-again : tie.Need-loop-i-preserved invariant-loop decreases-loop
 loop-again c =
     let o = c in
     let t = o in
-    one-laid _ _ _ t.loop-i.invariant t.loop-i-test.true refl o.lay_one-to.ensures c.behind-at.ensures o.lay_one-to.auto.1.1.0
+    one-laid _ _ _ t.loop-i.invariant t.loop-i-test.true refl o.lay_one-to.ensures c.behind-at.ensures o.lay_one-to.auto.out
 
 returns : tie.Need-returns invariant-loop decreases-loop
 returns c = all_laid _ _ _ c.loop-i.invariant c.loop-i-test.false

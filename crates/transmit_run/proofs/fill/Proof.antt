@@ -25,7 +25,7 @@ loop-again c =
     let m = c.more-state in
     let i = c in
     let l = i.loop-state in (
-      m.auto.1.1.0 ∙ l.invariant.0,
+      m.auto.script ∙ l.invariant.0,
       omega (arith, l.invariant.1, i.if-made.false),
       one_more l.invariant.2 i.loop-state-test.true (record { fills = m.ensures; brought = refl }),
     )

@@ -20,7 +20,7 @@ hand-on-requires c κs =
       arith,
       ap length c.front.ensures,
       take_short o.over-ran.result.place.state.made.count
-          o.over-ran.new.1.1.1.1.1.0,
+          o.over-ran.new.frames,
       k.1.1.1.1.0,
       k.1.1.1.1.1.0,
       o.requires,

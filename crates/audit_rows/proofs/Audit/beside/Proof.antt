@@ -32,7 +32,7 @@ loop-again c =
     let c3 = c in
     let c5 = c3 in
     let c6 = c5 in (
-      c3.turn-turned.auto.1.1.1.0 ∙ c6.loop-done.invariant.0,
+      c3.turn-turned.auto.rows ∙ c6.loop-done.invariant.0,
       one_turn _ _ _ c6.loop-done.invariant.1 (not-true _ c5.loop-done-test.true) c3.turn-turned.ensures,
     )
 

@@ -4,7 +4,6 @@ use mathlib.Core.Path.{◌≡◌, refl, sym, ap, ◌∙◌}
 use lib.ListN.{length}
 use native.Mathlib.Omega.{arith}
 use borrow.Author.Rules.{rules}
-use borrow.Author.Tests.{not-true, not-false}
 use Rattle.audit_rows.specs.Goes.{hand_of}
 use Rattle.audit_rows.proofs.Reading.{Filled, none_filled, more-filled, dry-filled, full-filled, here_by, more-here}
 use Rattle.audit_rows.proofs.Audit.filled.Statement.{statement}
@@ -27,7 +26,7 @@ returns c =
     let c8 = c7 in
     let l = c8.loop-here in
     let short : length (hand_of l.audit l.rows) < 17 = omega (arith, l.invariant.1, c7.loop-here-test.true) in
-    let none = sym c.brought.ensures ∙ not-true _ c.if-not-brought.true in
+    let none = sym c.brought.ensures ∙ c.if-not-brought.true in
     dry-filled l.invariant.2 c5.refill-read.ensures short c.have-here.ensures none
 
 loop-less : tie.Need-loop-here-smaller invariant-loop decreases-loop
@@ -36,7 +35,7 @@ loop-less c =
     let c7 = c5 in
     let c8 = c7 in
     let l = c8.loop-here in
-    let some = sym c.brought.ensures ∙ not-false _ c.if-not-brought.false in
+    let some = sym c.brought.ensures ∙ c.if-not-brought.false in
     omega (arith, more-here c5.refill-read.ensures l.invariant.1 some, c7.loop-here-test.true, c.have-here.ensures)
 
 loop-again : tie.Need-loop-here-preserved invariant-loop decreases-loop
@@ -48,8 +47,8 @@ loop-again c =
     let read = c5.refill-read in
     let short : length (hand_of l.audit l.rows) < 17 = omega (arith, l.invariant.1, c7.loop-here-test.true) in
     let same = c.have-here.ensures in
-    let some = sym c.brought.ensures ∙ not-false _ c.if-not-brought.false in
-    (read.auto.1.1.0 ∙ l.invariant.0, here_by read.ensures same, more-filled l.invariant.2 read.ensures short same some)
+    let some = sym c.brought.ensures ∙ c.if-not-brought.false in
+    (read.auto.input ∙ l.invariant.0, here_by read.ensures same, more-filled l.invariant.2 read.ensures short same some)
 
 pub filled_spec : {M : Type 1} → statement M
 filled_spec =

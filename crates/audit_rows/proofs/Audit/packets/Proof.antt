@@ -38,7 +38,7 @@ loop-again c =
     let c8 = c5 in
     let l = c8.loop-i in
     let small = c5.shared_slice_known-in-loop-i-1.given l.i in (
-      c.beside-audit.auto.1.1.1.0 ∙ l.invariant.0,
+      c.beside-audit.auto.rows ∙ l.invariant.0,
       one-done _ _ _ _ _ _ _ l.i l.invariant.1 (search rules) (search rules) (omega (arith, small)) c3.part.ensures
           c.beside-audit.ensures,
     )

@@ -15,8 +15,8 @@ add-from c =
       arith,
       used-left a.self a.rows.now a.packet.now a.arrival c3.hand.ensures
           c.look-looked.ensures,
-      s.well-formed.0,
-      s.well-formed.1.1.1.0,
+      s.well_formed.0,
+      s.well_formed.1.1.1.0,
     )
 
 returns : tie.Need-returns-then-brought
@@ -29,7 +29,7 @@ returns c =
     let a = c18.args in
     let looked = c11.look-looked.ensures in
     let read = c5.refill-read.ensures in
-    turns-rows a.self a.rows.now a.packet.now a.arrival c12.hand.ensures looked c7.enum_told-in-Rows-1.given.1
+    turns-rows a.self a.rows.now a.packet.now a.arrival c12.hand.ensures looked c7.in-Rows.is
     read c.have-have.ensures (sym c.brought.ensures ∙ c.if-brought.true)
 
 returns-2 : tie.Need-returns-in-Packet
@@ -38,7 +38,7 @@ returns-2 c =
     let c5 = c4 in
     let s = c5 in
     let a = s.args in
-    turns-packet a.self a.rows.now a.packet.now a.arrival c5.hand.ensures c4.look-looked.ensures c.enum_told-1.given.1
+    turns-packet a.self a.rows.now a.packet.now a.arrival c5.hand.ensures c4.look-looked.ensures c.in-Packet.is
 
 returns-3 : tie.Need-returns-in-Nothing
 returns-3 c =
@@ -47,7 +47,7 @@ returns-3 c =
     let s = c7 in
     let a = s.args in
     turns-verdict a.self a.rows.now a.packet.now a.arrival c7.hand.ensures c6.look-looked.ensures
-    c.wanted-1.given.1
+    c.in-Nothing.is
     c.stopped-last.ensures
 
 returns-4 : tie.Need-returns-else-brought
@@ -64,7 +64,7 @@ returns-4 c =
     let looked = c15.look-looked.ensures in
     let read = c9.refill-read.ensures in
     let none = sym c5.brought.ensures ∙ c4.if-brought.false in
-    turns-end a.self a.rows.now a.packet.now a.arrival c16.hand.ensures looked c11.enum_told-in-Rows-1.given.1
+    turns-end a.self a.rows.now a.packet.now a.arrival c16.hand.ensures looked c11.in-Rows.is
     read c6.have-have.ensures none c.hand-in-Rows.ensures c.end-verdict.ensures c.stopped-last-in-Rows.ensures
 
 pub turn_spec : {M : Type 1} → statement M

@@ -14,8 +14,8 @@ add-from c =
       arith,
       used-left a.self a.input.now a.receiver a.kept.now c12.hand.ensures
           c7.next-received.ensures,
-      c19.well-formed.0,
-      c19.well-formed.1.1.1.0,
+      c19.well_formed.0,
+      c19.well_formed.1.1.1.0,
     )
 
 returns : tie.Need-returns

@@ -1,7 +1,6 @@
 -- `Reader::scan` meets its contract. The loop has gone over the first i octets.
 use Prim.Native.Nat.{◌+◌, ◌-◌}
 use mathlib.Core.Path.{◌≡◌, ap, ◌∙◌}
-use mathlib.Core.Logic.{⊎_elim}
 use lib.ListN.{length, get_or}
 use borrow.Author.Rules.{rules}
 use Rattle.kiss.specs.Reader.{standing, reader, taking, after, closed}
@@ -10,6 +9,7 @@ use Rattle.kiss.proofs.Closing.{told_by_lem}
 use Rattle.kiss.proofs.Scanning.{Going, going-first, goes_on_lem, goes-past, stops, ends}
 use Rattle.kiss.proofs.Scanning.{after-escape, after-plain, after-begins, takes_type, takes_none, takes_one}
 use Rattle.kiss.proofs.Reader.scan.Statement.{statement}
+use Rattle.kiss.proofs.Reader.scan.Lts.{then-escaping, else-escaping+else-x-2}
 use Rattle.kiss.proofs.Reader.scan.Tie as tie
 
 abbrev invariant-loop : tie.invariant-loop-i
@@ -28,7 +28,7 @@ returns c =
     let i = c in
     let l = i in
     let k = l.loop-i in
-    c.close.ensures ∙ ap (λ (a : Reader). closed a (k.i + 1) k.auto) c.at.ensures
+    c.close.ensures ∙ ap (λ (a : Reader). closed a (k.i + 1) k.kept) c.at.ensures
     ∙ stops k.invariant l.loop-i-test.true i.if-x.true i.if-marked-wrong.true
 
 loop-again : tie.Need-loop-i-preserved-then-x invariant-loop decreases-loop
@@ -46,12 +46,13 @@ loop-again-2 c =
 joined : (c : tie.Joined-escaping invariant-loop decreases-loop)
     → let k = c.loop-i in
     let w = c.args.window.now in
-    after (reader k.marked k.escaping k.wrong k.other k.count) k.auto (get_or w k.i 0)
-    ≡ taking (reader k.marked c.if-escaping.escaping c.if-escaping.wrong k.other k.count) k.auto c.if-escaping.x
+    after (reader k.marked k.escaping k.wrong k.other k.count) k.kept (get_or w k.i 0)
+    ≡ taking (reader k.marked c.if-escaping.escaping c.if-escaping.wrong k.other k.count) k.kept c.if-escaping.x
 joined c =
-    ⊎_elim
-    (λ w. after-escape _ _ _ w.0.taken w.1.ensures w.2.ensures w.3 w.4 w.5)
-    (λ w. after-plain _ _ _ w.0.left w.1.left w.2 w.3 w.4) c.if-escaping.branch
+    elim c.if-escaping.branch [
+      | then-escaping w ↦ after-escape _ _ _ w.if-escaping.true w.misplaced-wrong.ensures w.meant-x.ensures w.escaping-is w.wrong-is w.x-is
+      | else-escaping+else-x-2 w ↦ after-plain _ _ _ w.if-escaping.false w.if-x-2.false w.escaping-is w.wrong-is w.x-is
+    ]
 
 loop-again-3 : tie.Need-loop-i-preserved-then-count-eq0 invariant-loop decreases-loop
 loop-again-3 c =
@@ -63,7 +64,7 @@ loop-again-4 : tie.Need-loop-i-preserved-then-count-le-KEPT invariant-loop decre
 loop-again-4 c =
     let l = c in
     goes_on_lem l.loop-i.invariant l.loop-i-test.true c.if-x.false
-    (joined c.before.before ∙ takes_one _ _ _ c.if-count-eq0.false c.if-count-le-KEPT.true)
+    (joined c.before.before.before ∙ takes_one _ _ _ c.if-count-eq0.false c.if-count-le-KEPT.true)
 
 loop-again-5 : tie.Need-loop-i-preserved invariant-loop decreases-loop
 loop-again-5 c =

@@ -68,7 +68,7 @@ mul-frames c =
         index c13.requires c7.loop-k.invariant c6.loop-k-test.true c5.least-n.ensures,
         lengths-length-kept
             c13.requires c7.loop-k.invariant,
-        c13.well-formed.1.1.1.1.1.1.1.1.1.0,
+        c13.well_formed,
       );
     }
 
@@ -100,7 +100,7 @@ add-end c =
         arith,
         end_fits c15.requires c9.loop-k.invariant c8.loop-k-test.true c7.least-n.ensures
             c4.write-length.ensures,
-        c15.well-formed.1.1.1.1.1.1.1.1.0,
+        c15.well_formed,
       );
     }
 
@@ -116,7 +116,7 @@ add-k c =
         index c15.requires c9.loop-k.invariant c8.loop-k-test.true c7.least-n.ensures,
         lengths-length-kept
             c15.requires c9.loop-k.invariant,
-        c15.well-formed.1.1.1.1.1.1.1.1.1.0,
+        c15.well_formed,
       );
     }
 

@@ -5,67 +5,52 @@ use Rattle.session.proofs.Taking.{to-cut, few-packets, few-headers, to_complete,
 use Rattle.session.proofs.channels.take.Statement.{statement}
 use Rattle.session.proofs.channels.take.Tie as tie
 
-abbrev start : tie.After-cut-cut → tie.Start
-start c = c.before.before.before.before.before.before.before.before
-
 cut-requires : tie.Need-cut-cut-requires
 cut-requires c κs =
-    let c7 = c in
-    let a = c7.args in
-    to-cut a.dropped a.held.now a.«data».now a.octets.now a.lengths.now a.firsts.now c7.requires
+    let a = c.args in
+    to-cut a.dropped a.held.now a.«data».now a.octets.now a.lengths.now a.firsts.now c.requires
 
 hand-out-requires : tie.Need-hand_out-requires
 hand-out-requires c κs =
-    let c5 = c.before.before.before.before.before in
-    let k = c5.cut-cut in
-    let s = start c5 in
-    let a = s.args in
-    to-hand-out a.dropped a.held.now a.«data».now a.octets.now a.lengths.now a.firsts.now s.pre a.first
+    let k = c.cut-cut in
+    let a = c.args in
+    to-hand-out a.dropped a.held.now a.«data».now a.octets.now a.lengths.now a.firsts.now c.requires a.first
     a.head.arrival k.result _ _ k.ensures
 
 cast-packets : tie.Need-overflow_cast-packets
 cast-packets c =
-    let c12 = c.before.before.before.before.before.before.before.before.before.before.before.before in
-    let k = c12.cut-cut in
-    let s = start c12 in
-    let a = s.args in
+    let k = c.cut-cut in
+    let a = c.args in
     omega (
       arith,
-      few-packets a.dropped a.held.now a.«data».now a.octets.now a.lengths.now a.firsts.now s.pre
+      few-packets a.dropped a.held.now a.«data».now a.octets.now a.lengths.now a.firsts.now c.requires
           a.first a.head.arrival k.result _ _ k.ensures,
     )
 
 completed-requires : tie.Need-completed-headers-requires
 completed-requires c κs =
-    let c12 = c.before.before.before.before.before.before.before.before.before.before.before.before in
-    let k = c12.cut-cut in
-    let s = start c12 in
-    let a = s.args in
-    to_complete a.dropped a.held.now a.«data».now a.octets.now a.lengths.now a.firsts.now s.pre a.first
+    let k = c.cut-cut in
+    let a = c.args in
+    to_complete a.dropped a.held.now a.«data».now a.octets.now a.lengths.now a.firsts.now c.requires a.first
     a.head.arrival k.result _ _ k.ensures
 
 cast-headers : tie.Need-overflow_cast-headers
 cast-headers c =
-    let c13 = c.before.before.before.before.before.before.before.before.before.before.before.before.before in
-    let k = c13.cut-cut in
-    let s = start c13 in
-    let a = s.args in
+    let k = c.cut-cut in
+    let a = c.args in
     omega (
       arith,
-      few-headers a.dropped a.held.now a.«data».now a.octets.now a.lengths.now a.firsts.now s.pre a.first
+      few-headers a.dropped a.held.now a.«data».now a.octets.now a.lengths.now a.firsts.now c.requires a.first
           a.head.arrival k.result _ _ k.ensures
           c.completed-headers.result c.completed-headers.ensures,
     )
 
 returns : tie.Need-returns
 returns c g begun =
-    let c7 = c in
-    let c13 = c7.before.before.before.before.before.before in
-    let k = c13.cut-cut in
-    let h = c7.hand_out in
-    let s = start c13 in
-    let a = s.args in
-    takes a.dropped a.held.now a.«data».now a.octets.now a.lengths.now a.firsts.now s.pre a.first
+    let k = c.cut-cut in
+    let h = c.hand_out in
+    let a = c.args in
+    takes a.dropped a.held.now a.«data».now a.octets.now a.lengths.now a.firsts.now c.requires a.first
     a.head.arrival k.result _ _ k.ensures
     g begun a.head.count.0 a.on _ h.ensures c.left-channel.result c.completed-headers.result c.completed-headers.ensures
     c.left-channel.ensures

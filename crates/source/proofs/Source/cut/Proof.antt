@@ -11,7 +11,7 @@ use Rattle.source.proofs.Source.cut.Tie as tie
 returns-3 : tie.Need-returns-in-Frames
 returns-3 c =
     let c4 = c in
-    sym (ap cut_at c4.in-Frames.is ∙ ap (λ (a : Reader). is_cut (state_of a [])) c.in-Frames.is)
+    sym (ap cut_at c4.in-Recording.is ∙ ap (λ (a : Reader). is_cut (state_of a [])) c.in-Frames.is)
 
 pub cut_spec : {M : Type 1} → statement M
 cut_spec =
