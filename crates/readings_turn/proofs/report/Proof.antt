@@ -8,18 +8,18 @@ use Rattle.readings_turn.proofs.report.Tie as tie
 same_length : tie.Need-shape_of-input
 same_length c =
     let c10 = c in
-    c10.turns-stopped.auto.1.1.0
+    c10.turns-stopped.auto.input
 
 same-length-2 : tie.Need-shape_of-out
 same-length-2 c =
     let c10 = c in
     let c14 = c10 in
-    c10.turns-stopped.auto.1.1.1.1.1.1.1.1.1.1.1.0 ∙ c.begun-begun.auto.0
+    c10.turns-stopped.auto.out ∙ c.begun-begun.auto.out
 
 same-length-3 : tie.Need-shape_of-counts
 same-length-3 c =
     let c10 = c in
-    c10.turns-stopped.auto.1.1.1.1.1.1.1.1.1.1.1.1.0
+    c10.turns-stopped.auto.counts
 
 returns : tie.Need-returns
 returns c =
@@ -27,7 +27,7 @@ returns c =
     let c14 = c10 in
     let c15 = c14 in
     reported c14.begun-begun.ensures
-    c14.begun-begun.auto.0
+    c14.begun-begun.auto.out
     c14.written-first.ensures c10.turns-stopped.ensures
     c.written-state.ensures
 

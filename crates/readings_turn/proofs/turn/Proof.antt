@@ -9,32 +9,32 @@ same_length : tie.Need-shape_of-input
 same_length c =
     let c14 = c in
     let c15 = c14 in
-    c.pull-pulled.auto.1.1.1.0
+    c.pull-pulled.auto.input
 
 same-length-2 : tie.Need-shape_of-octets
 same-length-2 c =
     let c14 = c in
-    c.pull-pulled.auto.1.1.1.1.1.1.0
+    c.pull-pulled.auto.octets
 
 same-length-3 : tie.Need-shape_of-lengths
 same-length-3 c =
     let c14 = c in
-    c.pull-pulled.auto.1.1.1.1.1.1.1.0
+    c.pull-pulled.auto.lengths
 
 same-length-4 : tie.Need-shape_of-firsts
 same-length-4 c =
     let c14 = c in
-    c.pull-pulled.auto.1.1.1.1.1.1.1.1.0
+    c.pull-pulled.auto.firsts
 
 same-length-5 : tie.Need-shape_of-out
 same-length-5 c =
     let c10 = c in
-    c10.heed-heard.auto.1.1.1.1.1.1.1.1.1.1.1.1.1.0
+    c10.heed-heard.auto.out
 
 same-length-6 : tie.Need-shape_of-counts
 same-length-6 c =
     let c10 = c in
-    c10.heed-heard.auto.1.1.1.1.1.1.1.1.1.1.1.1.1.1.0
+    c10.heed-heard.auto.counts
 
 returns : tie.Need-returns
 returns c =
@@ -46,7 +46,7 @@ returns c =
     turned (layouts_of a.text.now a.apids.now a.sids.now a.starts.now a.n a.codes.now a.froms.now
     a.tos.now) c.pull-pulled.ensures
     c10.heed-heard.ensures
-    c10.heed-heard.auto.1.1.1.1.1.1.1.1.1.1.1.1.1.0 c4.hand-hand.ensures c.before_a_read-after.ensures c.is_bad-bad.ensures
+    c10.heed-heard.auto.out c4.hand-hand.ensures c.before_a_read-after.ensures c.is_bad-bad.ensures
     c.may_go_on-going.ensures
 
 pub turn_spec : {M : Type 1} → statement M

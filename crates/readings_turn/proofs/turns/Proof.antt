@@ -86,18 +86,18 @@ loop-again c =
     let c15 = c13 in
     let t = c9.turn-standing in
     let l = c.loop-standing in (
-      t.auto.1.1.0 ∙ l.inv.0,
-      t.auto.1.1.1.1.1.1.1.1.1.1.1.1.1.1.1.0 ∙ l.inv.1,
-      t.auto.1.1.1.1.1.1.1.1.1.1.1.1.1.1.1.1.0 ∙ l.inv.2,
-      t.auto.1.1.1.1.0 ∙ l.inv.3,
-      t.auto.1.1.1.1.1.0 ∙ l.inv.4,
-      t.auto.1.1.1.1.1.1.0 ∙ l.inv.5,
+      t.auto.input ∙ l.invariant.0,
+      t.auto.out ∙ l.invariant.1,
+      t.auto.counts ∙ l.invariant.2,
+      t.auto.octets ∙ l.invariant.3,
+      t.auto.lengths ∙ l.invariant.4,
+      t.auto.firsts ∙ l.invariant.5,
       omega (
         arith,
-        l.inv.6,
+        l.invariant.6,
         c.if-made.false,
       ),
-      one_turn _ _ _ _ _ _ _ l.inv.7
+      one_turn _ _ _ _ _ _ _ l.invariant.7
           c.loop-standing-test.true t.ensures,
     )
 

@@ -11,7 +11,7 @@ returns c =
     let c14 = c in
     let a = c14.args in
     quiet-heeded (layouts_of a.text.now a.apids.now a.sids.now a.starts.now a.n a.codes.now a.froms.now
-    a.tos.now) a.pull c.in_default.keys2 (omega (arith, c14.well-formed.1.1.1.1.1.1.1.1.1.1.1.1.1.1.1))
+    a.tos.now) a.pull c.in_default.in_default-own.keys2 (omega (arith, c14.well_formed))
 
 returns-2 : tie.Need-returns-in-Refused
 returns-2 c =
@@ -22,7 +22,7 @@ returns-2 c =
     let a = c23.args in
     refused-heeded (layouts_of a.text.now a.apids.now a.sids.now a.starts.now a.n a.codes.now a.froms.now
     a.tos.now) c8.in-Answered.is c5.in-Refused.is c.count.ensures
-    (omega (arith, c23.well-formed.1.1.1.1.1.1.1.1.1.1.1.1.1.1.1))
+    (omega (arith, c23.well_formed))
 
 returns-3 : tie.Need-returns-in-Accepted
 returns-3 c =

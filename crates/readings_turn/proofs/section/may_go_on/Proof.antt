@@ -7,10 +7,10 @@ use Rattle.readings_turn.proofs.section.may_go_on.Tie as tie
 returns-2 : tie.Need-returns-in-More
 returns-2 c =
     let c3 = c in
-    may_follow_lem c3.args.pull c.failed.ensures c.if-failed.false c.in-More.keys1
+    may_follow_lem c3.args.pull c.failed.ensures c.if-failed.false c.in-More.in-More-own.keys1
 
 returns-3 : tie.Need-returns-in_default
-returns-3 c = at-end c.args.pull c.failed.ensures c.if-failed.false c.in_default.keys2
+returns-3 c = at-end c.args.pull c.failed.ensures c.if-failed.false c.in_default.in_default-own.keys2
 
 pub may_go_on_spec : {M : Type 1} → statement M
 may_go_on_spec = tie.close
