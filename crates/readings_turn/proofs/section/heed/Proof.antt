@@ -21,7 +21,7 @@ returns-2 c =
     let c23 = c22 in
     let a = c23.args in
     refused-heeded (layouts_of a.text.now a.apids.now a.sids.now a.starts.now a.n a.codes.now a.froms.now
-    a.tos.now) c8.pull-1.given.1 c5.answer-1.given.1 c.count.ensures
+    a.tos.now) c8.in-Answered.is c5.in-Refused.is c.count.ensures
     (omega (arith, c23.well-formed.1.1.1.1.1.1.1.1.1.1.1.1.1.1.1))
 
 returns-3 : tie.Need-returns-in-Accepted
@@ -33,7 +33,7 @@ returns-3 c =
     let c26 = c25 in
     let a = c26.args in
     accepted-heeded (layouts_of a.text.now a.apids.now a.sids.now a.starts.now a.n a.codes.now a.froms.now
-    a.tos.now) c11.pull-1.given.1 c8.answer-in-Accepted-1.given.1 c4.frame.ensures
+    a.tos.now) c11.in-Answered.is c8.in-Accepted.is c4.frame.ensures
 
 pub heed_spec : {M : Type 1} → statement M
 heed_spec =
