@@ -1,5 +1,4 @@
 -- `audit_turns::heed` meets its contract.
-use borrow.Enum.Refused.{opened}
 use borrow.Author.Rules.{rules}
 use Rattle.audit_turns.proofs.Turning.{heeds-none, heeds-bad, heeds-frame, heeds-end}
 use Rattle.audit_turns.proofs.heed.Statement.{statement}
@@ -8,7 +7,7 @@ use Rattle.audit_turns.proofs.heed.Tie as tie
 returns : tie.Need-returns-in-More
 returns c =
     let a = c.args in
-    heeds-none a.audit a.rows.now a.octets.now a.lengths.now a.pull (opened c.in-More.in-More-own.keys1)
+    heeds-none a.audit a.rows.now a.octets.now a.lengths.now a.pull c.in-More.in-More-own.keys1
 
 returns-2 : tie.Need-returns-in-Answered
 returns-2 c =
@@ -20,7 +19,7 @@ returns-2 c =
 returns-3 : tie.Need-returns-in-Bad
 returns-3 c =
     let a = c.args in
-    heeds-bad a.audit a.rows.now a.octets.now a.lengths.now a.pull (opened c.in-Bad.in-Bad-own.keys3)
+    heeds-bad a.audit a.rows.now a.octets.now a.lengths.now a.pull c.in-Bad.in-Bad-own.keys3
 
 returns-4 : tie.Need-returns-in-End
 returns-4 c =
