@@ -1,3 +1,4 @@
+-- `text::fours` ends.
 use Rattle.std.proofs.Common.{length, ◌-◌}
 use Rattle.records.proofs.text.fours.Given as goal
 

@@ -1,3 +1,4 @@
+-- `text::hex` ends.
 use Rattle.std.proofs.Common.{length, ◌-◌}
 use Rattle.records.proofs.text.hex.Given as goal
 

@@ -1,3 +1,4 @@
+-- `text::words` ends.
 use Rattle.std.proofs.Common.{length, ◌-◌}
 use Rattle.records.proofs.text.words.Given as goal
 
