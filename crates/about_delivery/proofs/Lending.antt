@@ -9,14 +9,14 @@ use Rattle.octets.proofs.Choices.{picks}
 use Rattle.answer.specs.Told.{Told}
 use Rattle.answer.specs.declared.Refusal.{Refusal}
 use Rattle.frame.specs.declared.Frame.{Frame}
-use Rattle.frame.specs.Frame.{read_frame}
+use Rattle.frame.specs.Frame.{read_frame, data_of}
 use Rattle.rules.specs.Limits.{most_packets, most_octets}
 use Rattle.session.specs.declared.Session.{Session}
 use Rattle.session.specs.declared.StepAnswer.{StepAnswer}
 use Rattle.session.specs.declared.StepAnswer.TheVariants as answer
 use Rattle.session.specs.declared.Accepted.{Accepted}
 use Rattle.session.specs.Lent.{Lent, lent, Enough, laid}
-use Rattle.session.specs.Step.{told, Outcome, refused, counted, accepted, heeded, outcome, turned_away}
+use Rattle.session.specs.Step.{told, Outcome, refused, refused_at, counted, accepted, heeded, outcome, turned_away}
 use Rattle.stretch.specs.Stretch.{Stretch, found, unread}
 use Rattle.session.specs.Statements.{offered}
 use Rattle.session.proofs.Admitting.{admitted_picks}
@@ -40,12 +40,14 @@ accepted-tells : (s : Session) (f : Frame) (d : List ℕ) → Tells (accepted s 
 unfolding accepted
 accepted-tells s f d = refl
 
-heeded-tells : (s : Session) (frame : List ℕ) → Says (heeded s frame (read_frame s.t frame))
-heeded-tells s frame = picks Says (read_frame s.t frame).accepted (accepted s _ _) _ (λ a. accepted-tells s _ _) (λ a. refl)
+heeded-tells : (s : Session) (frame : List ℕ) (r : Told Frame) → Says (heeded s frame r)
+heeded-tells s frame r =
+    picks Says r.accepted (accepted s r.fields (data_of r.fields frame)) (refused_at s r.refusal r.octet)
+    (λ a. accepted-tells s r.fields (data_of r.fields frame)) (λ a. refl)
 
 offer-tells : (s : Session) (x : Stretch) (l : Lent) → Says (offered s x l)
 unfolding outcome turned_away
-offer-tells s (found x) l = admitted_picks Says s l _ (λ a. heeded-tells (counted s) x) (λ n e. refl)
+offer-tells s (found x) l = admitted_picks Says s l _ (λ a. heeded-tells (counted s) x (read_frame s.t x)) (λ n e. refl)
 offer-tells s (unread n) l = admitted_picks Says s l (refused (counted s) n) (λ a. refl) (λ n e. refl)
 
 abbrev zeros : Lent

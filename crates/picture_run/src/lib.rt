@@ -27,13 +27,6 @@ const LAST_IMAGE: usize = 65535;
 // The most turns.
 const TURNS: u64 = 18446744073709551615;
 
-// Where octets come from, and the receiver that takes them.
-#[derive(Clone, Copy)]
-struct Input<'a> {
-    descriptor: &'a window::Source,
-    receiver: Receiver,
-}
-
 // Where a run stands: the feed and the receiver, whether it goes on, whether the recording was found bad, and what the last turn read.
 #[derive(Clone, Copy)]
 pub(crate) struct State {
@@ -68,16 +61,18 @@ pub fn run(
         telling::say(name, b": IMAGE is 0 to 65535\n");
         return window::BROKEN;
     }
-    let input = Input {
-        descriptor,
-        receiver,
-    };
-    show_image(name, wanted as u16, lines, input)
+    show_image(name, wanted as u16, lines, descriptor, receiver)
 }
 
 // The same of an image by its number.
-fn show_image(name: &[u8], wanted: u16, lines: bool, input: Input<'_>) -> i32
-    ensures { Shown wanted lines input.receiver result }
+fn show_image(
+    name: &[u8],
+    wanted: u16,
+    lines: bool,
+    descriptor: &window::Source,
+    receiver: Receiver,
+) -> i32
+    ensures { Shown wanted lines receiver result }
 {
     let mut pixels = black();
     let mut numbers = [0u32; image::LINES];
@@ -86,7 +81,8 @@ fn show_image(name: &[u8], wanted: u16, lines: bool, input: Input<'_>) -> i32
     let mut images = unnoted();
     let stopped = turns(
         name,
-        input,
+        descriptor,
+        receiver,
         wanted,
         &mut pixels,
         &mut numbers,
@@ -117,7 +113,8 @@ fn unnoted() -> [u32; picture_images::PLACES]
 // Takes the whole input. It ends with the input, a bad recording or a failed read; after 2^64 - 1 turns it would end too.
 fn turns(
     name: &[u8],
-    input: Input<'_>,
+    descriptor: &window::Source,
+    receiver: Receiver,
     wanted: u16,
     pixels: &mut [u8],
     numbers: &mut [u32],
@@ -125,7 +122,7 @@ fn turns(
     packets: &mut [u64],
     images: &mut [u32],
 ) -> Stopped
-    ensures { Looped wanted input.receiver
+    ensures { Looped wanted receiver
         (gathered pixels.old numbers.old packets.old images.old frames.old) result
         (gathered pixels.new numbers.new packets.new images.new frames.new) }
 {
@@ -134,8 +131,7 @@ fn turns(
     let mut octets = [0u8; 501];
     let mut lengths = [0u16; 16];
     let mut firsts = [0u32; 16];
-    let descriptor = input.descriptor;
-    let mut state = start(input);
+    let mut state = start(receiver);
     let mut made: u64 = 0;
     while state.going {
         if made == TURNS {
@@ -163,11 +159,10 @@ fn turns(
 }
 
 // Before the first turn.
-fn start(input: Input<'_>) -> State
-    ensures { result ≡ start_of input.receiver }
+fn start(receiver: Receiver) -> State
+    ensures { result ≡ start_of receiver }
 {
     let feed = Feed::fresh();
-    let receiver = input.receiver;
     let read = Refilled::none();
     State {
         feed,

@@ -7,7 +7,7 @@ use Rattle.audit_turns.proofs.heed.Tie as tie
 returns : tie.Need-returns-in-More
 returns c =
     let a = c.args in
-    heeds-none a.audit a.rows.now a.octets.now a.lengths.now a.pull c.in-More.keys1
+    heeds-none a.audit a.rows.now a.octets.now a.lengths.now a.pull c.in-More.in-More-own.keys1
 
 returns-2 : tie.Need-returns-in-Answered
 returns-2 c =
@@ -19,7 +19,7 @@ returns-2 c =
 returns-3 : tie.Need-returns-in-Bad
 returns-3 c =
     let a = c.args in
-    heeds-bad a.audit a.rows.now a.octets.now a.lengths.now a.pull c.in-Bad.keys3
+    heeds-bad a.audit a.rows.now a.octets.now a.lengths.now a.pull c.in-Bad.in-Bad-own.keys3
 
 returns-4 : tie.Need-returns-in-End
 returns-4 c =

@@ -1,5 +1,6 @@
 -- `export_kiss_run::turn` meets its contract.
 use Rattle.std.proofs.Common.{ap, ◌∙◌, arith, rules}
+use borrow.Enum.Refused.{opened}
 use Rattle.export_kiss_run.specs.Turns.{Leads}
 use Rattle.export_kiss_run.proofs.Turning.{scan-sound}
 use Rattle.export_kiss_run.proofs.TurnLaws.{read-on, used-left, went_on}
@@ -72,7 +73,7 @@ returns-2 c =
     p13.section-led.ensures p18.wrapping_add_u64-passed.result
     p7.hand-3.ensures p6.emit-written.result p6.emit-written.ensures
     p5.failed-well.ensures p4.none-read.ensures
-    p20.match.keys2
+    (opened p20.in_default.in_default-own.keys2)
 
 pub turn_spec : {M : Type 1} → statement M
 turn_spec =

@@ -10,34 +10,28 @@ use borrow.Author.Rules.{rules}
 use Rattle.listing.proofs.frame_lines.Statement.{statement}
 use Rattle.listing.proofs.frame_lines.Tie as tie
 
-abbrev start : tie.After-answer_line-next → tie.Start
-start c = c.before.before.before.before.before.before
-
 -- how many packets there are
-many : (c : tie.After-wide) → c.wide.result ≡ (told
-    (start c.before.before.before.before.before.before.before).args.answer).fields.packets
+many : (c : tie.After-wide) → c.wide.result ≡ (told c.args.answer).fields.packets
 many c = told-packets c.in-Accepted.is c.wide.ensures
 
 packet-lines-requires : tie.Need-packet_lines-requires
 packet-lines-requires c κs =
-    let c7 = c.before.before.before.before.before.before.before in
-    let l = c7.answer_line-next in
-    let s = start c7 in
-    let a = s.args in
-    let few : c.wide.result ≤ 16 = omega (arith, many c, s.pre.1.0) in (
+    let l = c.answer_line-next in
+    let a = c.args in
+    let few : c.wide.result ≤ 16 = omega (arith, many c, c.requires.1.0) in (
       omega (
         arith,
-        (line-laid a.answer a.arrival a.octets.now a.lengths.now a.firsts.now (omega (arith, s.pre.0))
+        (line-laid a.answer a.arrival a.octets.now a.lengths.now a.firsts.now (omega (arith, c.requires.0))
             l.ensures).near,
-        l.auto.0,
-        s.pre.0,
+        l.auto.out,
+        c.requires.0,
       ),
       (
         few,
         (
-          s.pre.1.1.0,
+          c.requires.1.1.0,
           subst (λ (n : ℕ). total (take n a.lengths.now) ≤ length a.octets.now) (sym (many c))
-              s.pre.1.1.1,
+              c.requires.1.1.1,
         ),
       ),
     )
@@ -45,19 +39,16 @@ packet-lines-requires c κs =
 returns : tie.Need-returns-in-Accepted
 returns c =
     let w = c.before.before.before in
-    let l = w.answer_line-next in
-    let s = start w.before.before.before.before.before.before.before in
-    let a = s.args in
-    with_packets a.answer a.arrival a.octets.now a.lengths.now a.firsts.now (omega (arith, s.pre.0)) l.ensures
-    (many w) (omega (arith, many w, s.pre.1.0)) c.packet_lines.ensures
+    let l = c.answer_line-next in
+    let a = c.args in
+    with_packets a.answer a.arrival a.octets.now a.lengths.now a.firsts.now (omega (arith, c.requires.0)) l.ensures
+    (many w) (omega (arith, many w, c.requires.1.0)) c.packet_lines.ensures
 
 returns-2 : tie.Need-returns-in-Refused
 returns-2 c =
-    let c4 = c.before.before.before.before in
-    let l = c4.answer_line-next in
-    let s = start c4 in
-    let a = s.args in
-    without_packets a.answer a.arrival a.octets.now a.lengths.now a.firsts.now (omega (arith, s.pre.0)) l.ensures
+    let l = c.answer_line-next in
+    let a = c.args in
+    without_packets a.answer a.arrival a.octets.now a.lengths.now a.firsts.now (omega (arith, c.requires.0)) l.ensures
     c.in-Refused.is
 
 pub frame_lines_spec : {M : Type 1} → statement M

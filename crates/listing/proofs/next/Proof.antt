@@ -1,7 +1,6 @@
 -- `listing::next` meets its contract.
 use Prim.Native.Nat.{◌-◌}
 use mathlib.Core.Path.{◌≡◌}
-use mathlib.Core.Logic.{⊎_elim}
 use lib.ListN.{length}
 use native.Mathlib.Omega.{arith}
 use borrow.Author.Rules.{rules}
@@ -9,6 +8,7 @@ use Rattle.listing.proofs.Handed.{few-packets, packets-there, frame-text, steppe
 use Rattle.listing.proofs.Sofar.{Sofar, none_yet, turn_inside, less_header, less_nothing, less_offered, small-t, fits, stretch}
 use Rattle.listing.proofs.Sofar.{on-header, on-nothing, on-offered, carried, stop-missing, stop-over, stop-bad, stop-full}
 use Rattle.listing.proofs.next.Statement.{statement}
+use Rattle.listing.proofs.next.Lts.{in-Opened, in-Nothing, in-Here}
 use Rattle.listing.proofs.next.Tie as tie
 
 abbrev invariant-loop : tie.invariant-loop-out
@@ -71,10 +71,11 @@ loop-less : tie.Need-loop-out-smaller invariant-loop decreases-loop
 loop-less c =
     let s = c in
     let n = s.loop-out.invariant.0 in
-    ⊎_elim
-    (λ w. less_header n s.scan-scanned.ensures w.1.given.1)
-    (⊎_elim (λ w. less_nothing n s.scan-scanned.ensures w.1.given.1) (λ w. less_offered n s.scan-scanned.ensures w.0.keys6))
-    c.match-taken.branch
+    elim c.match-taken.branch [
+      | in-Opened w ↦ less_header n s.scan-scanned.ensures w.in-Opened.is
+      | in-Nothing w ↦ less_nothing n s.scan-scanned.ensures w.in-Nothing.is
+      | in-Here w ↦ less_offered n s.scan-scanned.ensures w.in-Here.in-Here-own.keys6
+    ]
 
 loop-again : tie.Need-loop-out-preserved invariant-loop decreases-loop
 loop-again c =
@@ -83,29 +84,33 @@ loop-again c =
     let l = t.loop-out in
     let n = l.invariant in
     let x = stretch n.0 s.scan-scanned.ensures t.loop-out-test.true in
-    ⊎_elim
-    (λ w. carried w.9 w.10 w.11 w.12 w.13 w.14 (
-      on-header n.0 s.scan-scanned.ensures t.loop-out-test.true w.1.given.1 w.6.ensures w.6.kept.0 w.3.ensures.session,
-      n.1,
-      n.2,
-      n.3,
-    ))
-    (⊎_elim
-    (λ w. carried w.2 w.3 w.4 w.5 w.6 w.7 (
-      on-nothing n.0 s.scan-scanned.ensures t.loop-out-test.true w.1.given.1,
-      n.1,
-      n.2,
-      n.3,
-    ))
-    (λ w. carried w.18 w.19 w.20 w.21 w.22 w.23 (
-      on-offered n.0 s.scan-scanned.ensures t.loop-out-test.true w.0.keys6 w.15.ensures w.15.kept.0
-          (frame-text l.session x n.1 n.2 n.3 w.6.ensures)
-          (stepped-session l.session x n.1 n.2 n.3 w.6.ensures),
-      octets-long l.session x n.1 n.2 n.3 w.6.ensures,
-      lengths-long l.session x n.1 n.2 n.3 w.6.ensures,
-      numbers-long l.session x n.1 n.2 n.3 w.6.ensures,
-    )))
-    c.match-taken.branch
+    elim c.match-taken.branch [
+      | in-Opened w ↦
+          carried w.out-is w.octets-is w.lengths-is w.firsts-is w.session-is w.size-is (
+            on-header n.0 s.scan-scanned.ensures t.loop-out-test.true w.in-Opened.is w.header_line-size.ensures w.header_line-size.auto.out
+                w.open-opened.ensures.session,
+            n.1,
+            n.2,
+            n.3,
+          )
+      | in-Nothing w ↦
+          carried w.out-is w.octets-is w.lengths-is w.firsts-is w.session-is w.size-is (
+            on-nothing n.0 s.scan-scanned.ensures t.loop-out-test.true w.in-Nothing.is,
+            n.1,
+            n.2,
+            n.3,
+          )
+      | in-Here w ↦
+          carried w.out-is w.octets-is w.lengths-is w.firsts-is w.session-is w.size-is (
+            on-offered n.0 s.scan-scanned.ensures t.loop-out-test.true w.in-Here.in-Here-own.keys6 w.frame_lines-size.ensures
+                w.frame_lines-size.auto.out
+                (frame-text l.session x n.1 n.2 n.3 w.offer-stepped.ensures)
+                (stepped-session l.session x n.1 n.2 n.3 w.offer-stepped.ensures),
+            octets-long l.session x n.1 n.2 n.3 w.offer-stepped.ensures,
+            lengths-long l.session x n.1 n.2 n.3 w.offer-stepped.ensures,
+            numbers-long l.session x n.1 n.2 n.3 w.offer-stepped.ensures,
+          )
+    ]
 
 returns-4 : tie.Need-returns invariant-loop decreases-loop
 returns-4 c = stop-full c.loop-out.invariant.0 c.loop-out-test.false c.stopped-2.ensures

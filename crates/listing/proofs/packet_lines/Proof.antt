@@ -29,44 +29,37 @@ loop-holds c = (refl, omega arith, refl, no_number _ _)
 cast-part : tie.Need-overflow_cast-size invariant-loop decreases-loop
 cast-part c = omega (arith, c.shared_slice_known-in-loop-i-1.given c.loop-i.i)
 
-abbrev turn : tie.After-slice_known-in-loop-i-1 invariant-loop decreases-loop → tie.At-loop-i invariant-loop decreases-loop
-turn c = c.before.before.before.before.before.before.before.before.before
-
-abbrev start : tie.At-loop-i invariant-loop decreases-loop → tie.Start invariant-loop decreases-loop
-start c = c.before.before.before.before.before
-
 -- where the packet ends
 ends : (c : tie.After-slice_known-in-loop-i-1 invariant-loop decreases-loop) →
-    (let a = (start (turn c)).args in
-    let i = (turn c).loop-i.i in
+    (let a = c.args in
+    let i = c.loop-i.i in
     total (take i a.lengths.now) + get_or a.lengths.now i 0 ≤ length a.octets.now)
 ends c =
-    let s = start (turn c) in
-    next-inside s.args.lengths.now (turn c).loop-i.i (search rules) {packets = s.args.packets} (search rules) s.pre.1.1.1
+    next-inside c.args.lengths.now c.loop-i.i (search rules) {packets = c.args.packets} (search rules) c.requires.1.1.1
 
-small : (c : tie.After-slice_known-in-loop-i-1 invariant-loop decreases-loop) → get_or (start (turn c)).args.lengths.now (turn c).loop-i.i 0 ≤ 65535
-small c = omega (arith, c.shared_slice_known-in-loop-i-1.given (turn c).loop-i.i)
+small : (c : tie.After-slice_known-in-loop-i-1 invariant-loop decreases-loop) → get_or c.args.lengths.now c.loop-i.i 0 ≤ 65535
+small c = omega (arith, c.shared_slice_known-in-loop-i-1.given c.loop-i.i)
 
 loop-again : tie.Need-loop-i-preserved invariant-loop decreases-loop
 loop-again c =
-    let a = (start (turn c)).args in
-    let l = (turn c).loop-i in
+    let a = c.args in
+    let l = c.loop-i in
     let p = c.packet_line-next in
     let inside : l.i < length a.lengths.now = search rules in
     let numbers : l.i < length a.firsts.now = search rules in (
-      p.auto.0 ∙ l.inv.0,
+      p.auto.out ∙ l.invariant.0,
       search rules,
-      ap (λ (k : ℕ). k + get_or a.lengths.now l.i 0) l.inv.2 ∙ sym (next-from a.lengths.now l.i inside),
+      ap (λ (k : ℕ). k + get_or a.lengths.now l.i 0) l.invariant.2 ∙ sym (next-from a.lengths.now l.i inside),
       one-packet-more a.lengths.now l.i inside a.arrival a.octets.now a.firsts.now
-          c.read-read.result (search rules) numbers l.inv.2 (ends c)
+          c.read-read.result (search rules) numbers l.invariant.2 (ends c)
           (c.read-read.ensures ∙ ap read_packet c.part.ensures)
-          l.inv.3 (omega (arith, l.inv.0, l.inv.3.near)) p.ensures,
+          l.invariant.3 (omega (arith, l.invariant.0, l.invariant.3.near)) p.ensures,
     )
 
 returns : tie.Need-returns invariant-loop decreases-loop
 returns c =
     let l = c.loop-i in
-    let a = (start c.before).args in
+    let a = c.args in
     let all : l.i ≡ a.packets = omega arith in
     resaid (ap (λ (k : ℕ). packets_text (cut a.arrival a.octets.now (take k a.lengths.now) a.firsts.now)) all)
     (omega arith) l.invariant.3
@@ -77,4 +70,4 @@ packet_lines_spec =
     (tie.spec
     invariant-loop decreases-loop loop-holds (λ c. search rules) (λ c. search rules) (λ c. search rules) (λ c. search rules) cast-part
     (λ c κs. search rules) (λ c κs. search rules) (λ c κs. search rules) (λ c. omega (arith, small c))
-    (λ c. omega (arith, ends c, (turn c).loop-i.invariant.2)) (λ c. search rules) (λ c. search rules) loop-again (λ c. search rules) returns)
+    (λ c. omega (arith, ends c, c.loop-i.invariant.2)) (λ c. search rules) (λ c. search rules) loop-again (λ c. search rules) returns)

@@ -23,7 +23,7 @@ returns c =
     resaid refl (omega arith)
     (losses_then (args.arrival ∷ 0 ∷ args.a.channel ∷ []) args.a.lost args.a.master args.a.packets
     numbers.ensures lost.ensures master.ensures c.number.ensures (omega (arith, start.requires))
-    numbers.auto.0 lost.auto.0 master.auto.0)
+    numbers.auto.out lost.auto.out master.auto.out)
 
 pub accepted_spec : {M : Type 1} → statement M
 accepted_spec =

@@ -30,5 +30,5 @@ pub header_line_spec : {M : Type 1} → statement M
 header_line_spec =
     tie.close
     (tie.spec
-    (λ c κs. search rules) (λ c. search rules) returns (λ c. search rules) (λ c κs. search rules) add-result
+    (λ c κs. search rules) (λ c. search rules) returns (λ c κs. search rules) add-result
     (λ c. search rules) returns-2)

@@ -15,8 +15,8 @@ returns c =
     let c15 = c10 in
     resaid refl (omega (arith, c15.requires.1))
     (joined (omega (arith, c15.requires.0)) (put-laid {text = c15.args.x ∷ 32 ∷ []} (omega (arith, c15.requires.0)) c10.put.ensures)
-    (numbers_then c15.args.list.now c15.args.size 10 (omega (arith, c15.requires.0, c15.requires.1, c10.put.auto.0))
-    c6.numbers-next.auto.0 c6.numbers-next.ensures c.number.ensures))
+    (numbers_then c15.args.list.now c15.args.size 10 (omega (arith, c15.requires.0, c15.requires.1, c10.put.auto.out))
+    c6.numbers-next.auto.out c6.numbers-next.ensures c.number.ensures))
 
 pub lettered_spec : {M : Type 1} → statement M
 lettered_spec =

@@ -18,4 +18,4 @@ pub mark_spec : {M : Type 1} → statement M
 mark_spec =
     tie.close
     (tie.spec
-    returns (λ c. search rules) returns-2 (λ c. search rules) (λ c κs. search rules) (λ c. search rules) (λ c. search rules) returns-3)
+    returns (λ c. search rules) returns-2 (λ c κs. search rules) (λ c. search rules) (λ c. search rules) returns-3)

@@ -26,11 +26,11 @@ returns c =
     let c7 = c in
     let c11 = c7 in
     resaid refl (omega arith) (numbers-text (c11.args.arrival ∷ c11.args.refusal ∷ []) (45 ∷ 32 ∷ 45 ∷ 32 ∷ 45 ∷ 32 ∷ 45 ∷ 10 ∷ [])
-    (omega (arith, c11.requires)) c7.numbers-next.auto.0 c7.numbers-next.ensures c.put.ensures)
+    (omega (arith, c11.requires)) c7.numbers-next.auto.out c7.numbers-next.ensures c.put.ensures)
 
 pub refused_spec : {M : Type 1} → statement M
 refused_spec =
     tie.close
     (tie.spec
-    (λ c. search rules) (λ c κs. search rules) (λ c. search rules) (λ c κs. search rules) add-result
+    (λ c. search rules) (λ c κs. search rules) (λ c κs. search rules) add-result
     (λ c. search rules) returns)

@@ -41,7 +41,7 @@ returns c =
       kept' = _;
       lends' = _;
       octets = g.octets;
-      loops = begun p12.args.input.receiver p3.start-state.ensures (all_made g.made c.if-made.true);
+      loops = begun p12.args.receiver p3.start-state.ensures (all_made g.made c.if-made.true);
     }
 
 add-made : tie.Need-overflow_add-made invariant-loop decreases-loop
@@ -92,7 +92,7 @@ returns-2 c =
       kept' = _;
       lends' = _;
       octets = g.octets;
-      loops = begun p11.args.input.receiver c.start-state.ensures (stopped g.made c.loop-state-test.false);
+      loops = begun p11.args.receiver c.start-state.ensures (stopped g.made c.loop-state-test.false);
     }
 
 pub turns_spec : {M : Type 1} → statement M

@@ -26,7 +26,7 @@ returns-3 c =
 returns-4 : tie.Need-returns-in-Missing
 returns-4 c =
     let a = c.args in
-    no_octets a.window.now c.part-in-Missing.ensures ∙ sym (no_frame_lem a.kept.now a.window.now a.taken c.in-Missing.keys3)
+    no_octets a.window.now c.part-in-Missing.ensures ∙ sym (no_frame_lem a.kept.now a.window.now a.taken c.in-Missing.in-Missing-own.keys3)
 
 pub frame_of_spec : {M : Type 1} → statement M
 frame_of_spec =

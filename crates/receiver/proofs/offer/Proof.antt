@@ -16,7 +16,7 @@ returns-2 c =
     let f = s in
     let m = f in
     let a = m.args in
-    offers-frame a.session a.kept.now a.window.now a.taken m.in_default.keys2 f.frame_of.ensures s.step-stepped.ensures
+    offers-frame a.session a.kept.now a.window.now a.taken m.in_default.in_default-own.keys2 f.frame_of.ensures s.step-stepped.ensures
 
 pub offer_spec : {M : Type 1} → statement M
 offer_spec =

@@ -21,8 +21,8 @@ hand-on-requires c κs =
       ap length c.front.ensures,
       take_short o.over-ran.result.place.state.made.count
           o.over-ran.new.frames,
-      k.1.1.1.1.0,
-      k.1.1.1.1.1.0,
+      k.made,
+      k.frames,
       o.requires,
     )
 

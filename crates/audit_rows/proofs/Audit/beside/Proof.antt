@@ -2,7 +2,6 @@
 use mathlib.Core.Path.{◌≡◌, refl, ◌∙◌}
 use lib.ListN.{length}
 use borrow.Author.Rules.{rules}
-use borrow.Author.Tests.{not-true, not-false}
 use Rattle.table.specs.Look.{handed}
 use Rattle.audit_rows.proofs.Reading.{Beside, turns_left, no_turn, one_turn, all-turns, fewer_turns}
 use Rattle.audit_rows.proofs.Audit.beside.Statement.{statement}
@@ -19,13 +18,13 @@ loop-holds : tie.Need-loop-done-init invariant-loop decreases-loop
 loop-holds c = (refl, no_turn _ _ _)
 
 turn-requires : tie.Need-turn-turned-requires invariant-loop decreases-loop
-turn-requires c κs = c.loop-done.invariant.1.going_on (not-true _ c.loop-done-test.true)
+turn-requires c κs = c.loop-done.invariant.1.going_on c.loop-done-test.true
 
 loop-less : tie.Need-loop-done-smaller invariant-loop decreases-loop
 loop-less c =
     let c3 = c in
     let c5 = c3 in
-    fewer_turns (not-true _ c5.loop-done-test.true) c3.turn-turned.ensures
+    fewer_turns c5.loop-done-test.true c3.turn-turned.ensures
 
 loop-again : tie.Need-loop-done-preserved invariant-loop decreases-loop
 loop-again c =
@@ -33,11 +32,11 @@ loop-again c =
     let c5 = c3 in
     let c6 = c5 in (
       c3.turn-turned.auto.rows ∙ c6.loop-done.invariant.0,
-      one_turn _ _ _ c6.loop-done.invariant.1 (not-true _ c5.loop-done-test.true) c3.turn-turned.ensures,
+      one_turn _ _ _ c6.loop-done.invariant.1 c5.loop-done-test.true c3.turn-turned.ensures,
     )
 
 returns : tie.Need-returns invariant-loop decreases-loop
-returns c = all-turns _ _ _ c.loop-done.invariant.1 (not-false _ c.loop-done-test.false)
+returns c = all-turns _ _ _ c.loop-done.invariant.1 c.loop-done-test.false
 
 pub beside_spec : {M : Type 1} → statement M
 beside_spec = tie.close (tie.spec invariant-loop decreases-loop loop-holds turn-requires loop-less loop-again (λ c. search rules) returns)

@@ -31,7 +31,7 @@ returns-6 : tie.Need-returns-in-Here
 returns-6 c =
     let o = c in
     let m = o in
-    gives-offered _ m.scan-scanned.ensures m.match.keys6 o.offer-stepped.ensures
+    gives-offered _ m.scan-scanned.ensures m.in-Here.in-Here-own.keys6 o.offer-stepped.ensures
 
 pub next_spec : {M : Type 1} → statement M
 next_spec =

@@ -1,0 +1,7 @@
+-- `summary_count::counters::refusal` meets its contract.
+use Rattle.summary_count.proofs.Counting.{counting}
+use borrow.Author.Rules.{rules}
+use Rattle.summary_count.proofs.counters.refusal.Goals as goal
+
+pub returns : goal.returns
+returns c = search (counting, rules)

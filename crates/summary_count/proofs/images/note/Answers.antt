@@ -1,0 +1,14 @@
+-- `images::note` meets its contract.
+use mathlib.Core.Path.{refl}
+use Rattle.summary_count.proofs.Noting.{noted_here, noted-nowhere}
+use Rattle.summary_count.proofs.images.note.Goals as goal
+
+pub returns-then-i-lt-IMAGES : goal.returns-then-i-lt-IMAGES
+returns-then-i-lt-IMAGES c =
+    noted_here c.args.image c.args.line c.args.counts.now refl c.place-i.ensures c.if-i-lt-IMAGES.true
+    c.wide.ensures c.leave.ensures
+    c.leave-then-i-lt-IMAGES.ensures
+
+pub returns : goal.returns
+returns c =
+    noted-nowhere c.args.image c.args.line c.args.counts.now refl c.place-i.ensures c.if-i-lt-IMAGES.false c.add.ensures

@@ -1,0 +1,25 @@
+-- `summary_text::walks::apids` meets its contract. The loop has told the APIDs below number i.
+use Prim.Native.Nat.{ℕ, ◌-◌}
+use mathlib.Core.List.{List}
+use Rattle.summary_count.specs.Count.{saturated}
+use Rattle.summary_pen.specs.Words.{if_any}
+use Rattle.summary_pen.specs.Choice.{form}
+use Rattle.summary_text.specs.Text.{apid_texts}
+use Rattle.summary_pen.proofs.Saying.{read-two, through_none, through_on, through_all}
+use borrow.Author.Rules.{rules}
+use Rattle.summary_text.proofs.walks.apids.Goals as goal
+
+pub loop-i-init : goal.loop-i-init
+loop-i-init c = (search rules, search rules, through_none _ _ _)
+
+pub loop-i-preserved : goal.loop-i-preserved
+loop-i-preserved c =
+    let l = c.loop-i in
+    let a = c.args in
+    let text : ℕ → ℕ → List ℕ = λ m n. if_any (saturated m n) ((form a.csv).apid l.i m n) in
+    let told = read-two text c.of-missing.ensures c.of-restarted.ensures c.apid-pen.ensures in
+    (search rules, search rules, through_on _ _ l.i l.invariant.2 (search rules) told)
+
+pub returns : goal.returns
+unfolding apid_texts
+returns c = through_all _ _ c.loop-i.i c.loop-i.invariant.2 (search rules)
