@@ -1,6 +1,5 @@
 -- `export_kiss_run::section` meets its contract.
 use Rattle.export_kiss_run.proofs.Turning.{opened, handed-on, few-octets, in_order, nothing-more, nothing_yet}
-use borrow.Enum.Refused as refused
 use Rattle.std.proofs.Common.{rules}
 use Rattle.export_kiss_run.proofs.section.Statement.{statement}
 use Rattle.export_kiss_run.proofs.section.Tie as tie
@@ -44,13 +43,13 @@ returns-3 : tie.Need-returns-in-Bad
 returns-3 c =
     let p3 = c in
     let a = p3.args in
-    nothing-more a.both a.t a.frames a.hand.now a.out.now a.taken (refused.opened c.in-Bad.in-Bad-own.keys3)
+    nothing-more a.both a.t a.frames a.hand.now a.out.now a.taken c.in-Bad.in-Bad-own.keys3
 
 returns-4 : tie.Need-returns-in-Nothing
 returns-4 c =
     let p3 = c in
     let a = p3.args in
-    nothing_yet a.both a.t a.frames a.hand.now a.out.now a.taken (refused.opened c.in-Nothing.in-Nothing-own.keys4)
+    nothing_yet a.both a.t a.frames a.hand.now a.out.now a.taken c.in-Nothing.in-Nothing-own.keys4
 
 pub section_spec : {M : Type 1} → statement M
 section_spec =
