@@ -82,8 +82,8 @@ marks : (s : Source) (kept w : List ℕ) → Marks s (scanned s kept w).source (
 unfolding scanned
 marks (source.Recording a) kept w =
     section_marks a w (recording.scanned a w) (recording.scanned a w).taken (reading.scans_find a w).told
-marks (source.Kiss a) kept w = stream_marks (source.Kiss a) _ refl refl (length w) _
-marks (source.Bits a) kept w = stream_marks (source.Bits a) _ refl refl (length w) _
+marks (source.Kiss a) kept w = stream_marks (source.Kiss a) (scanned (source.Kiss a) kept w).source refl refl (length w) _
+marks (source.Bits a) kept w = stream_marks (source.Bits a) (scanned (source.Bits a) kept w).source refl refl (length w) _
 
 -- ---- by what is told
 
