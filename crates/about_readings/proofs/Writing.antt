@@ -213,7 +213,8 @@ module _ (l : Layouts) (a : Receiver) (s : State) (input out counts : List ℕ) 
       empty [] e = refl
       empty (c ∷ y) e = absurd (omega arith)
 
-  all-turns : s.packets < 2 ^ 64 → {n : ℕ} {text : List ℕ} {p : Place} → Turns going_at (TurnedAt l) (start_of a s input out counts) n text p
+  all-turns : s.packets < 2 ^ 64 → {n : ℕ} {text : List ℕ} {p : Place}
+      → Turns going_at (TurnedAt l) (start_of a s input out counts) n text p
       → p.standing.read.failed ≡ false → failed_in p.standing.state.output ≡ false → p.standing.going ≡ false
       → Told p.octets text p.counts p.standing.state.output p.out
   all-turns few none read right stop = absurd (true≢false (ap not (sym right) ∙ stop))

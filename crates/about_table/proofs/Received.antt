@@ -50,8 +50,8 @@ none_rest : (b : Bool) (r : Report) (rs : List Report) → handed (when b r ++ r
 none_rest false r rs e = e
 none_rest true r rs e = ap (λ (xs : List Handed). xs ++ handed rs) (sym (none-front r.packets (handed rs) e)) ∙ e
 
-only_zero : (cs : List Call) (s : Session) → Runs s cs → ((v : ℕ) → suc v < 8 → handed (reports_of (suc v) cs) ≡ []) → handed_out cs ≡ handed
-    (reports_of 0 cs)
+only_zero : (cs : List Call) (s : Session) → Runs s cs → ((v : ℕ) → suc v < 8 → handed (reports_of (suc v) cs) ≡ [])
+    → handed_out cs ≡ handed (reports_of 0 cs)
 only_zero [] s w n = refl
 only_zero (c ∷ cs) s w n =
     by (answer_of c).accepted refl (answer_of c).fields.channel refl

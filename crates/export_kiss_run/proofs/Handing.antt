@@ -1,5 +1,7 @@
 -- A frame handed on: what the export of one frame leaves, and that it has room.
-use Rattle.std.proofs.Common.{◌≡◌, ℕ, ◌-◌, ◌*◌, ◌≤◌, Bool, true, false, not, eqb, ltb, List, [], ◌∷◌, ◌++◌, length, drop, sym, refl, ap, ◌∙◌, true≢false, append-nil, add-zero, arith, length-append, length-take-le, take_all, take_at, le-ltb, eq-eqb}
+use Rattle.std.proofs.Common.{◌≡◌, ℕ, ◌-◌, ◌*◌, ◌≤◌, Bool, true, false, not, eqb, ltb, List, [], ◌∷◌, ◌++◌, length, drop, sym, refl, ap}
+use Rattle.std.proofs.Common.{◌∙◌, true≢false, append-nil, add-zero, arith, length-append, length-take-le, take_all, take_at, le-ltb}
+use Rattle.std.proofs.Common.{eq-eqb}
 use mathlib.Core.Bool.{false≢true}
 use Rattle.octets.specs.Parts.{written}
 use Rattle.octets.specs.Pick.{pick}

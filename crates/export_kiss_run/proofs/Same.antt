@@ -4,7 +4,8 @@ use Rattle.octets.proofs.Choices.{picks}
 use Rattle.crc.specs.Check.{before}
 use Rattle.rules.specs.Packets.{joined}
 use Rattle.stretch.specs.Stretch.{Stretch}
-use Rattle.kiss.specs.Stream.{mark, data_frame, onto, parted, all_but_last, inner, escaped, unescaped, stretch_of, stretches_of, stretches_in}
+use Rattle.kiss.specs.Stream.{mark, data_frame, onto, parted, all_but_last, inner, escaped, unescaped, stretch_of, stretches_of}
+use Rattle.kiss.specs.Stream.{stretches_in}
 use Rattle.kiss.specs.Statements.{NoMark}
 use Rattle.kiss.proofs.Written.{parted-none, escapes_undone}
 use Rattle.kiss_writer.specs.Export.{block_of}

@@ -1,5 +1,7 @@
 -- Laws of a turn: what it writes, what is left at hand, and how it ends.
-use Rattle.std.proofs.Common.{◌≡◌, ℕ, ◌+◌, ◌-◌, ◌≤◌, Bool, true, false, not, ◌&&◌, ◌||◌, eqb, List, [], ◌∷◌, ◌++◌, length, drop, sym, refl, ap, ◌∙◌, subst, true≢false, append_assoc, append-nil, arith, length-append, length-drop, take_all, eq-eqb, eqb-true}
+use Rattle.std.proofs.Common.{◌≡◌, ℕ, ◌+◌, ◌-◌, ◌≤◌, Bool, true, false, not, ◌&&◌, ◌||◌, eqb, List, [], ◌∷◌, ◌++◌, length, drop, sym, refl}
+use Rattle.std.proofs.Common.{ap, ◌∙◌, subst, true≢false, append_assoc, append-nil, arith, length-append, length-drop, take_all, eq-eqb}
+use Rattle.std.proofs.Common.{eqb-true}
 use mathlib.Core.Bool.{false≢true, and-false, or-false}
 use types.Run.{OneOf, miss}
 use denote.Enum.Declared.{tag_of}

@@ -1,5 +1,6 @@
 -- What is written of a whole recording is the stream of the frames that are accepted.
-use Rattle.std.proofs.Common.{◌≡◌, ℕ, zero, suc, ◌+◌, Bool, true, false, ◌||◌, List, [], ◌∷◌, ◌++◌, map, drop, ℤ, sym, refl, ap, ◌∙◌, true≢false, append_assoc, append-nil}
+use Rattle.std.proofs.Common.{◌≡◌, ℕ, zero, suc, ◌+◌, Bool, true, false, ◌||◌, List, [], ◌∷◌, ◌++◌, map, drop, ℤ, sym, refl, ap, ◌∙◌}
+use Rattle.std.proofs.Common.{true≢false, append_assoc, append-nil}
 use Rattle.octets.specs.Pick.{pick}
 use Rattle.octets.proofs.Choices.{picks}
 use Rattle.octets.proofs.Tests.{or_left, or_right}

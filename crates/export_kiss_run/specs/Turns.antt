@@ -1,5 +1,6 @@
 -- What a turn of the program keeps, what the whole loop makes, and the exit status of a run.
-use Rattle.std.specs.Prelude.{◌≡◌, ℕ, ◌+◌, ◌-◌, ◌%◌, ◌^◌, ◌≤◌, Bool, true, false, not, ◌&&◌, ◌||◌, List, [], ◌∷◌, ◌++◌, length, take, drop, ℤ, ◌==◌, ◌≢◌}
+use Rattle.std.specs.Prelude.{◌≡◌, ℕ, ◌+◌, ◌-◌, ◌%◌, ◌^◌, ◌≤◌, Bool, true, false, not, ◌&&◌, ◌||◌, List, [], ◌∷◌, ◌++◌, length, take, drop}
+use Rattle.std.specs.Prelude.{ℤ, ◌==◌, ◌≢◌}
 use Rattle.octets.specs.Pick.{pick}
 use Rattle.source.specs.Found.{cut_at}
 use Rattle.source.specs.declared.Source.TheVariants as source

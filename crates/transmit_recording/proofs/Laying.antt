@@ -1,5 +1,7 @@
 -- Laws of a recording that is laid into an output, a frame after another.
-use Rattle.std.proofs.Common.{◌≡◌, ℕ, suc, ◌+◌, ◌-◌, ◌*◌, ◌%◌, ◌<◌, ◌≤◌, ltb, List, [], ◌++◌, length, take, drop, sym, refl, ap, ◌∙◌, subst, append_assoc, append-nil, add-one, arith, length-append, length-drop, drop_of_length-le, length-take-le, take_all, drop-cons, drop-drop, ltb-false, ltb-true, le-ltb, lt-ltb}
+use Rattle.std.proofs.Common.{◌≡◌, ℕ, suc, ◌+◌, ◌-◌, ◌*◌, ◌%◌, ◌<◌, ◌≤◌, ltb, List, [], ◌++◌, length, take, drop, sym, refl, ap, ◌∙◌, subst}
+use Rattle.std.proofs.Common.{append_assoc, append-nil, add-one, arith, length-append, length-drop, drop_of_length-le, length-take-le}
+use Rattle.std.proofs.Common.{take_all, drop-cons, drop-drop, ltb-false, ltb-true, le-ltb, lt-ltb}
 use Rattle.octets.specs.Numbers.{at, word_of}
 use Rattle.octets.specs.Parts.{part, put, written}
 use Rattle.octets.specs.Pick.{pick}
@@ -162,7 +164,8 @@ module _ (made frames out : List ℕ) where
         let n : ℕ = at frames i in
         ap (frames_of (drop from made)) (drop-cons frames i 0 l)
         ∙ ap (λ (x : List ℕ). one_of (drop from made) n ++ frames_of x (drop (suc i) frames)) (dropped made from n a.inside)
-        ∙ ap (λ (k : ℕ). one_of (drop from made) n ++ frames_of (drop (behind_of from n (length made)) made) (drop k frames)) (sym (add-one i))
+        ∙ ap (λ (k : ℕ). one_of (drop from made) n ++ frames_of (drop (behind_of from n (length made)) made) (drop k frames))
+        (sym (add-one i))
 
     pub one-laid : i < length frames → {n r from' : ℕ} {now' : List ℕ} → n ≡ at frames i
         → LaysOne (take (length made - from) (drop from made)) n now to r now' → from' ≡ behind_of from n (length made)

@@ -1,5 +1,6 @@
 -- Laws of the frames that a link loses, and of those that arrive.
-use Rattle.std.proofs.Common.{◌≡◌, ℕ, suc, ◌+◌, ◌-◌, ◌%◌, ◌^◌, ◌<◌, ◌≤◌, Bool, true, false, eqb, ltb, List, [], ◌∷◌, length, drop, set, sym, refl, ap, ◌∙◌, add-zero, zero-add, add-one, arith, drop_of_length-le, get_or-drop, drop-cons, drop-drop}
+use Rattle.std.proofs.Common.{◌≡◌, ℕ, suc, ◌+◌, ◌-◌, ◌%◌, ◌^◌, ◌<◌, ◌≤◌, Bool, true, false, eqb, ltb, List, [], ◌∷◌, length, drop, set, sym}
+use Rattle.std.proofs.Common.{refl, ap, ◌∙◌, add-zero, zero-add, add-one, arith, drop_of_length-le, get_or-drop, drop-cons, drop-drop}
 use lib.ListN.{get_or-eq_default}
 use lib.Seq.{set_out}
 use Rattle.octets.specs.Numbers.{at, four_of}

@@ -1,5 +1,6 @@
 -- What is handed on at a script's end, and the exit status.
-use Rattle.std.proofs.Common.{◌≡◌, ℕ, ◌+◌, ◌*◌, ◌≤◌, Bool, true, false, List, ◌++◌, length, take, drop, sym, refl, ap, ◌∙◌, subst, true≢false, le-ltb}
+use Rattle.std.proofs.Common.{◌≡◌, ℕ, ◌+◌, ◌*◌, ◌≤◌, Bool, true, false, List, ◌++◌, length, take, drop, sym, refl, ap, ◌∙◌, subst}
+use Rattle.std.proofs.Common.{true≢false, le-ltb}
 use native.Mathlib.Nat.{sub-zero}
 use lib.Seq.{take-append_seam}
 use Rattle.octets.specs.Parts.{written}

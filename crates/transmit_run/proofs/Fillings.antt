@@ -1,5 +1,6 @@
 -- What is at hand behind the reads of a script.
-use Rattle.std.proofs.Common.{◌≡◌, ℕ, ◌≤◌, Bool, true, false, not, eqb, List, [], ◌++◌, length, sym, refl, ap, ◌∙◌, subst, append-nil, arith}
+use Rattle.std.proofs.Common.{◌≡◌, ℕ, ◌≤◌, Bool, true, false, not, eqb, List, [], ◌++◌, length, sym, refl, ap, ◌∙◌, subst, append-nil}
+use Rattle.std.proofs.Common.{arith}
 use Rattle.window.specs.Window.{hand, unread, Refills}
 use Rattle.window.specs.Turns.{none, more, Loops}
 use Rattle.window.specs.declared.Refilled.{Refilled}
@@ -32,7 +33,8 @@ module _ (before : Filling) (script : List ℕ) where
 pub begun : {script : List ℕ} {n : ℕ} {p : Stand} {read : Refilled} → read ≡ unread
     → Loops going_at Brings (stand (record { have = 0; read = read; going = true }) script) n p → Loops going_at Brings
     (stand start script) n p
-begun {script} {n} {p} e = subst (λ (x : Refilled). Loops going_at Brings (stand (record { have = 0; read = x; going = true }) script) n p) e
+begun {script} {n} {p} e = subst (λ (x : Refilled). Loops going_at Brings
+    (stand (record { have = 0; read = x; going = true }) script) n p) e
 
 pub all-at-hand : AllAtHand
 all-at-hand script zero octets p none = refl

@@ -1,5 +1,6 @@
 -- Laws of the settings, from what the code's calls and tests told.
-use Rattle.std.proofs.Common.{◌≡◌, ℕ, zero, suc, ◌%◌, ◌<◌, ◌≤◌, Bool, true, false, ◌||◌, ltb, List, [], ◌∷◌, length, get_or, set, sym, refl, ap, ◌∙◌, mod-eq_of_lt, arith, ltb-false, le-ltb, lt-ltb}
+use Rattle.std.proofs.Common.{◌≡◌, ℕ, zero, suc, ◌%◌, ◌<◌, ◌≤◌, Bool, true, false, ◌||◌, ltb, List, [], ◌∷◌, length, get_or, set, sym, refl}
+use Rattle.std.proofs.Common.{ap, ◌∙◌, mod-eq_of_lt, arith, ltb-false, le-ltb, lt-ltb}
 use lib.ListN.{get_or-eq_default}
 use Rattle.octets.specs.Numbers.{at}
 use Rattle.octets.specs.Pick.{pick}

@@ -95,7 +95,14 @@ abbrev pub address_of : List ℕ → ℕ → Address
 address_of s ssid =
     record {
       callsign =
-          record { 0 = slice_index_or s 0 space; 1 = slice_index_or s 1 space; 2 = slice_index_or s 2 space; 3 = slice_index_or s 3 space; 4 = slice_index_or s 4 space; 5 = slice_index_or s 5 space };
+          record {
+            0 = slice_index_or s 0 space;
+            1 = slice_index_or s 1 space;
+            2 = slice_index_or s 2 space;
+            3 = slice_index_or s 3 space;
+            4 = slice_index_or s 4 space;
+            5 = slice_index_or s 5 space;
+          };
       ssid = ssid;
     }
 

@@ -45,6 +45,7 @@ pub form_spec : {M : Type 1} → statement M
 form_spec =
     tie.close
     (tie.spec
-    invariant-loop decreases-loop (λ c κs. search rules) (λ c κs. search rules) loop-holds (λ c. search rules) returns (λ c κs. search rules)
+    invariant-loop decreases-loop (λ c κs. search rules) (λ c κs. search rules) loop-holds (λ c. search rules) returns
+    (λ c κs. search rules)
     (λ c. search rules) (λ c. search rules) loop-again
     (λ c. search rules) returns-2)

@@ -11,18 +11,22 @@ returns-then-reason-eq-ROW_ORDER c =
 
 pub returns-then-reason-eq-ROW_PACKET : goal.returns-then-reason-eq-ROW_PACKET
 returns-then-reason-eq-ROW_PACKET c =
-    words_laid _ (packet_words _ c.if-reason-eq-TABLE_FORM.false c.if-reason-eq-ROW_ORDER.false c.if-reason-eq-ROW_PACKET.true) c.lay-then-reason-eq-ROW_PACKET.ensures
+    words_laid _ (packet_words _ c.if-reason-eq-TABLE_FORM.false c.if-reason-eq-ROW_ORDER.false c.if-reason-eq-ROW_PACKET.true)
+    c.lay-then-reason-eq-ROW_PACKET.ensures
 
 pub returns-then-reason-eq-ROW_VALUE : goal.returns-then-reason-eq-ROW_VALUE
 returns-then-reason-eq-ROW_VALUE c =
-    words_laid _ (value_words _ c.if-reason-eq-TABLE_FORM.false c.if-reason-eq-ROW_ORDER.false c.if-reason-eq-ROW_PACKET.false c.if-reason-eq-ROW_VALUE.true) c.lay-then-reason-eq-ROW_VALUE.ensures
+    words_laid _ (value_words _ c.if-reason-eq-TABLE_FORM.false c.if-reason-eq-ROW_ORDER.false c.if-reason-eq-ROW_PACKET.false
+    c.if-reason-eq-ROW_VALUE.true) c.lay-then-reason-eq-ROW_VALUE.ensures
 
 pub returns-then-reason-eq-ROW_CLAIM : goal.returns-then-reason-eq-ROW_CLAIM
 returns-then-reason-eq-ROW_CLAIM c =
-    words_laid _ (claim_words _ c.if-reason-eq-TABLE_FORM.false c.if-reason-eq-ROW_ORDER.false c.if-reason-eq-ROW_PACKET.false c.if-reason-eq-ROW_VALUE.false c.if-reason-eq-ROW_CLAIM.true)
+    words_laid _ (claim_words _ c.if-reason-eq-TABLE_FORM.false c.if-reason-eq-ROW_ORDER.false c.if-reason-eq-ROW_PACKET.false
+    c.if-reason-eq-ROW_VALUE.false c.if-reason-eq-ROW_CLAIM.true)
     c.lay-then-reason-eq-ROW_CLAIM.ensures
 
 pub returns : goal.returns
 returns c =
-    words_laid _ (no_words _ c.if-reason-eq-TABLE_FORM.false c.if-reason-eq-ROW_ORDER.false c.if-reason-eq-ROW_PACKET.false c.if-reason-eq-ROW_VALUE.false c.if-reason-eq-ROW_CLAIM.false)
+    words_laid _ (no_words _ c.if-reason-eq-TABLE_FORM.false c.if-reason-eq-ROW_ORDER.false c.if-reason-eq-ROW_PACKET.false
+    c.if-reason-eq-ROW_VALUE.false c.if-reason-eq-ROW_CLAIM.false)
     c.lay-2.ensures

@@ -13,14 +13,16 @@ use Rattle.audit_run.proofs.rows.Statement.{statement}
 use Rattle.audit_run.proofs.rows.Tie as tie
 
 abbrev invariant-loop : tie.invariant-loop-state
-invariant-loop name table source input₀ buffer₀ kept₀ octets₀ lengths₀ firsts₀ state₀ made₀ input buffer kept octets lengths firsts state made =
+invariant-loop name table source input₀ buffer₀ kept₀ octets₀ lengths₀ firsts₀ state₀ made₀ input buffer kept octets lengths firsts state
+    made =
     (length input ≡ length input₀) × (length buffer ≡ length buffer₀) × (length octets ≡ length octets₀)
     × (length lengths ≡ length lengths₀) × (length firsts ≡ length firsts₀) × (made ≤ most)
     × Made going_at TurnedAt (place state₀ input₀ kept₀ (lent octets₀ lengths₀ firsts₀) buffer₀) made
     (place state input kept (lent octets lengths firsts) buffer)
 
 abbrev decreases-loop : tie.decreases-loop-state
-decreases-loop name table source input₀ buffer₀ kept₀ octets₀ lengths₀ firsts₀ state₀ made₀ input buffer kept octets lengths firsts state made =
+decreases-loop name table source input₀ buffer₀ kept₀ octets₀ lengths₀ firsts₀ state₀ made₀ input buffer kept octets lengths firsts state
+    made =
     most - made
 
 loop-holds : tie.Need-loop-state-init invariant-loop decreases-loop
@@ -65,6 +67,7 @@ returns-2 c = began c.fresh-state.ensures (stopped c.loop-state.invariant.6 c.lo
 
 pub rows_spec : {M : Type 1} → statement M
 rows_spec = tie.close (tie.spec
-    invariant-loop decreases-loop (λ c κs. search rules) loop-holds (λ c. search rules) (λ c. search rules) (λ c. search rules) (λ c. search rules)
+    invariant-loop decreases-loop (λ c κs. search rules) loop-holds (λ c. search rules) (λ c. search rules) (λ c. search rules)
+    (λ c. search rules)
     (λ c. search rules) returns (λ c κs. search rules) add-made loop-less loop-again (λ c. search rules) (λ c. search rules)
     (λ c. search rules) (λ c. search rules) (λ c. search rules) returns-2)

@@ -34,5 +34,6 @@ pub lose_spec : {M : Type 1} → statement M
 lose_spec =
     tie.close
     (tie.spec
-    invariant-loop decreases-loop loop-holds sub-lost (λ c κs. search rules) (λ c κs. search rules) (λ c. search rules) (λ c. search rules) loop-again
+    invariant-loop decreases-loop loop-holds sub-lost (λ c κs. search rules) (λ c κs. search rules) (λ c. search rules)
+    (λ c. search rules) loop-again
     (λ c. search rules) returns)

@@ -14,7 +14,8 @@ invariant-loop script stamp₀ packets₀ lengths₀ made₀ frames₀ place₀ 
     (lent stamp packets lengths made frames) place lines at
 
 abbrev decreases-loop : tie.decreases-loop-at
-decreases-loop script stamp₀ packets₀ lengths₀ made₀ frames₀ place₀ lines₀ at₀ stamp packets lengths made frames place lines at = length script - at
+decreases-loop script stamp₀ packets₀ lengths₀ made₀ frames₀ place₀ lines₀ at₀ stamp packets lengths made frames place lines at =
+    length script - at
 
 loop-holds : tie.Need-loop-at-init invariant-loop decreases-loop
 loop-holds c =

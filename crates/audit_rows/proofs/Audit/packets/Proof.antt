@@ -50,5 +50,6 @@ pub packets_spec : {M : Type 1} → statement M
 packets_spec =
     tie.close
     (tie.spec
-    invariant-loop decreases-loop (λ c κs. search rules) loop-holds (λ c. search rules) returns (λ c. search rules) (λ c. search rules) cast-size
+    invariant-loop decreases-loop (λ c κs. search rules) loop-holds (λ c. search rules) returns (λ c. search rules)
+    (λ c. search rules) cast-size
     (λ c κs. search rules) (λ c κs. search rules) add-from (λ c. search rules) (λ c. search rules) loop-again (λ c. search rules) returns-2)
