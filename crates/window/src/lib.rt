@@ -3,10 +3,10 @@
 // The octets at hand are those of an input buffer from an index at up to an index end, as far as they are there.
 #![tactic(auto)]
 
-ghost use Rattle.std.specs.Prelude.{◌+◌, ◌≤◌, ◌≡◌, length, take, drop};
+ghost use Rattle.std.specs.Prelude.{◌+◌, ◌≤◌, ◌≡◌, ◌≢◌, length, take, drop};
 ghost use Rattle.std.specs.Io.{ReadsAtMost};
 ghost use Rattle.std.specs.Process.{exit_status};
-ghost use Rattle.window.specs.Status.{done, against, broken};
+ghost use Rattle.window.specs.Status.{done, against};
 ghost use Rattle.window.specs.Window.{hand, Refills, unread, unwritten};
 
 use std::fs::File;
@@ -36,7 +36,7 @@ const NO_TEXT: i32 = 84;
 pub fn exit(status: i32) -> ExitCode
     ensures done { status ≡ done → exit_status result ≡ 0 }
     ensures against { status ≡ against → exit_status result ≡ 1 }
-    ensures broken { status ≡ broken → exit_status result ≡ 2 }
+    ensures other { status ≢ done → status ≢ against → exit_status result ≡ 2 }
 {
     if status == DONE {
         return ExitCode::from(0);
