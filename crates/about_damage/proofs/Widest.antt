@@ -1,4 +1,5 @@
 -- Each kind of damage at its widest.
+use Rattle.std.specs.Prelude.{Ok}
 use Prim.Native.Nat.{ℕ, zero, suc, ◌+◌, ◌%◌, ◌<◌}
 use native.Mathlib.Omega.{arith}
 use mathlib.Core.Path.{◌≡◌, refl, sym, ap, ◌∙◌}
@@ -17,7 +18,6 @@ use Rattle.bits.specs.Rows.Order.{high_first}
 use Rattle.bits.proofs.Rows.{length-zeros}
 use Rattle.crc.specs.Check.{check, check_wrong}
 use Rattle.packet.specs.Packet.{fields_of, length_wrong, read_packet}
-use Rattle.packet.specs.declared.PacketRead.TheVariants as read
 use Rattle.about_damage.specs.Damage.{changes, count, Shown, Damaged}
 use Rattle.about_damage.specs.Damage.Shown.{oddly, two, near}
 use Rattle.about_damage.specs.Worth.{c_of}
@@ -84,7 +84,7 @@ unfolding read_packet length_wrong check_wrong check pick
 refused_with_21 became c d = record {
   damaged = d;
   refused = λ answer q.
-      let r = packet_worth packet became (read.Packet (fields_of packet)) answer refl refl d q in
+      let r = packet_worth packet became (Ok (fields_of packet)) answer refl refl d q in
       (r.accepted, r.number ∙ ap (λ (n : ℕ). pick (eqb n 9) refusal.packet_check refusal.packet_length) c);
 }
 

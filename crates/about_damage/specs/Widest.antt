@@ -4,7 +4,7 @@ use Rattle.answer.specs.Refusals as refusal
 use Rattle.bits.specs.Rows.{zeros}
 use Rattle.bits.specs.Rows.Order.{high_first}
 use Rattle.packet.specs.Packet.{told}
-use Rattle.packet.specs.declared.PacketRead.{PacketRead}
+use Rattle.packet.specs.Answers.{PacketRead}
 use Rattle.about_damage.specs.Damage.{count, Shown, Damaged}
 use Rattle.about_damage.specs.Worth.{PacketReads}
 use Rattle.about_damage.specs.Unseen.{packet}

@@ -6,9 +6,9 @@ use Rattle.answer.specs.Refusals as refusal
 use Rattle.bits.specs.Rows.{Order}
 use Rattle.bits.specs.Rows.Order.{high_first, low_first}
 use Rattle.crc.specs.Check.{check}
-use Rattle.packet.specs.declared.PacketRead.{PacketRead}
+use Rattle.packet.specs.Answers.{PacketRead}
 use Rattle.packet.specs.Packet as packet
-use Rattle.frame.specs.declared.FrameRead.{FrameRead}
+use Rattle.frame.specs.Answers.{FrameRead}
 use Rattle.frame.specs.Limits.{greatest_length}
 use Rattle.frame.specs.Frame as frame
 use Rattle.about_damage.specs.Damage.{Damaged}

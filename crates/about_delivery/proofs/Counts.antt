@@ -1,4 +1,5 @@
 -- The channel counts: what the session reports lost is what was lost, and the held octets go as if the loss were seen at once.
+use Rattle.std.specs.Prelude.{Some, None}
 use mathlib.Core.Path.{◌≡◌, refl, ap, ◌∙◌}
 use mathlib.Core.List.{List, [], ◌∷◌}
 use mathlib.Core.Bool.{Bool, false}
@@ -7,8 +8,7 @@ use Prim.Native.Nat.{ℕ, zero, suc, ◌+◌, ◌-◌, ◌%◌, ◌≤◌, ◌<�
 use native.Mathlib.Omega.{arith}
 use Rattle.counts.specs.Gap.{gap}
 use Rattle.counts.proofs.Laws.{gap-on}
-use Rattle.counts.specs.declared.Loss.{Loss}
-use Rattle.counts.specs.declared.Loss.TheVariants.{Unknown, Known}
+use Rattle.counts.specs.Loss.{Loss}
 use Rattle.counts.specs.Lost.{lost_since, number}
 use Rattle.rules.specs.Channel.{Held, nothing, cleared, answer, Piece, Channel, Work, follow, after_loss, step, fresh}
 use Rattle.sender.specs.Stream.{next_count}
@@ -47,12 +47,12 @@ kept zero h = h
 kept (suc n) h = nothing
 
 -- the count d + 1 on from the last says d
-pub lost-is : (l d c : ℕ) → d ≤ 255 → c ≡ (l + 1 + d) % 256 → lost_since (some l) c ≡ Known d
+pub lost-is : (l d c : ℕ) → d ≤ 255 → c ≡ (l + 1 + d) % 256 → lost_since (some l) c ≡ Some d
 unfolding lost_since
 lost-is l d c hd e =
     let sum : l + 1 + d ≡ l + (d + 1) = omega arith in
     let less : d + 1 - 1 ≡ d = omega arith in
-    ap Known (ap (λ (n : ℕ). gap 256 n l) (e ∙ ap (λ (n : ℕ). n % 256) sum) ∙ gap-on 256 l (d + 1) (omega arith) (omega arith) ∙ less)
+    ap Some (ap (λ (n : ℕ). gap 256 n l) (e ∙ ap (λ (n : ℕ). n % 256) sum) ∙ gap-on 256 l (d + 1) (omega arith) (omega arith) ∙ less)
 
 after-loss : (a d : ℕ) (b : Bool) (h : Held) (ptr : ℕ) (xs : List ℕ) → after_loss a d b h ptr xs ≡ follow a (still d b) (kept d h) ptr xs
 after-loss a zero b h ptr xs = refl
@@ -74,10 +74,10 @@ after_first (lost f ∷ ss) l d c b h hl hc k m =
 after_first (got a f ∷ ss) l d c b h hl hc k m =
     let n : ℕ = f.count in
     let w : Work = follow a (still d b) (kept d h) f.pointer f.octets in
-    let e : lost_since (some l) n ≡ Known d = lost-is l d n (omega (arith, m.0)) (k.0 ∙ hc) in
+    let e : lost_since (some l) n ≡ Some d = lost-is l d n (omega (arith, m.0)) (k.0 ∙ hc) in
     let ih : run (at n w.in_step (cleared w.held)) (offered ss) ≡ eager (some 0) w.in_step (cleared w.held) ss =
     after_first ss n 0 (next_count c) w.in_step (cleared w.held) (omega (arith, k.0)) (omega (arith, k.0)) k.1 m.1 in
-    rw (step_is a (at l b h) f (Known d) e, ih)
+    rw (step_is a (at l b h) f (Some d) e, ih)
 
 pub counts : (ss : List Fate) (c : ℕ) → c < 256 → Counted c ss → AtMost most_lost (expected_losses ss)
     → run fresh (offered ss) ≡ eager none false nothing ss
@@ -89,4 +89,4 @@ counts (got a f ∷ ss) c hc k m =
     let w : Work = follow a false nothing f.pointer f.octets in
     let ih : run (at n w.in_step (cleared w.held)) (offered ss) ≡ eager (some 0) w.in_step (cleared w.held) ss =
     after_first ss n 0 (next_count c) w.in_step (cleared w.held) (omega (arith, k.0)) (omega (arith, k.0)) k.1 m.1 in
-    rw (step_is a fresh f Unknown refl, ih)
+    rw (step_is a fresh f None refl, ih)

@@ -1,4 +1,5 @@
 -- Calls that do what is promised, for anything offered: one for each, with 501 octets, 16 lengths and 16 first numbers lent.
+use Rattle.std.specs.Prelude.{Ok, Err}
 use mathlib.Core.Path.{◌≡◌, refl, ap}
 use mathlib.Core.List.{List, [], ◌∷◌, map}
 use mathlib.Core.Bool.{Bool, true, false}
@@ -12,8 +13,7 @@ use Rattle.frame.specs.declared.Frame.{Frame}
 use Rattle.frame.specs.Frame.{read_frame, data_of}
 use Rattle.rules.specs.Limits.{most_packets, most_octets}
 use Rattle.session.specs.declared.Session.{Session}
-use Rattle.session.specs.declared.StepAnswer.{StepAnswer}
-use Rattle.session.specs.declared.StepAnswer.TheVariants as answer
+use Rattle.session.specs.Answers.{StepAnswer}
 use Rattle.session.specs.declared.Accepted.{Accepted}
 use Rattle.session.specs.Lent.{Lent, lent, Enough, laid}
 use Rattle.session.specs.Step.{told, Outcome, refused, refused_at, counted, accepted, heeded, outcome, turned_away}
@@ -24,8 +24,8 @@ use Rattle.about_delivery.specs.Run.{Call, Runs, Room, offer_of}
 
 -- the answer that tells this
 abbrev either : Bool → Refusal → Accepted → StepAnswer
-either true r a = answer.Accepted a
-either false r a = answer.Refused r
+either true r a = Ok a
+either false r a = Err r
 
 abbrev telling : Told Accepted → StepAnswer
 telling a = either a.accepted (record { number = a.refusal; octet = a.octet }) a.fields

@@ -1,4 +1,5 @@
 -- The master loss of a sender by the rules.
+use Rattle.std.specs.Prelude.{Some, None}
 use mathlib.Core.Path.{◌≡◌, refl, sym, ap, ◌∙◌, subst}
 use mathlib.Core.List.{List, [], ◌∷◌, ◌++◌, map}
 use mathlib.Core.Bool.{Bool, false}
@@ -16,8 +17,7 @@ use Rattle.answer.specs.Refusals as no
 use Rattle.counts.proofs.Laws.{gap-alone}
 use Rattle.frame.specs.Frame.{read_frame, data_of}
 use Rattle.frame.proofs.ReadsBack.{reads-back}
-use Rattle.counts.specs.declared.Loss.{Loss}
-use Rattle.counts.specs.declared.Loss.TheVariants.{Unknown, Known}
+use Rattle.counts.specs.Loss.{Loss}
 use Rattle.counts.specs.Lost.{last_of, lost_since, number}
 use Rattle.rules.specs.Limits.{last_number}
 use Rattle.session.specs.declared.Session.{Session}
@@ -55,10 +55,10 @@ follows_lost (some l) none m e = e
 follows_lost (some l) (some d) m e = omega arith
 
 -- any number lost, modulo 256
-lost_modulo : (l d m : ℕ) → m ≡ (l + 1 + d) % 256 → lost_since (some l) m ≡ Known (d % 256)
+lost_modulo : (l d m : ℕ) → m ≡ (l + 1 + d) % 256 → lost_since (some l) m ≡ Some (d % 256)
 unfolding lost_since
 lost_modulo l d m e =
-    ap Known
+    ap Some
     (sym (gap-alone 256 m l (d % 256) (omega arith)
     (record {
       below = mod-lt d (omega arith);
@@ -216,8 +216,8 @@ master-loss r =
     r.offers r.sender.well_formed r.sender.masters r.sender.small r.numbers tt r.strays
 
 small : (l : Loss) → number l ≤ most_lost → loss_modulo256 l ≡ l
-small Unknown h = refl
-small (Known n) h = ap Known (mod-eq_of_lt {m = 256} (omega arith))
+small None h = refl
+small (Some n) h = ap Some (mod-eq_of_lt {m = 256} (omega arith))
 
 all_small : (ls : List LostAt) → AtMost most_lost ls → map modulo256 ls ≡ ls
 all_small [] a = refl

@@ -1,4 +1,5 @@
 -- The recording of two channels meets the top statement's hypotheses, and what is handed out of it.
+use Rattle.std.specs.Prelude.{Ok}
 use mathlib.Core.Path.{◌≡◌, refl, sym, ap, ◌∙◌, subst}
 use mathlib.Core.List.{List, [], ◌∷◌, map}
 use mathlib.Core.Bool.{false}
@@ -18,7 +19,6 @@ use Rattle.rules.specs.Limits.{last_number}
 use Rattle.rules.specs.Packets.{Good}
 use Rattle.rules.specs.BothSides.{packet_of}
 use Rattle.session.specs.declared.Opened.{Opened}
-use Rattle.session.specs.declared.OpenAnswer.TheVariants as answer
 use Rattle.stretch.specs.Stretch.{Stretch}
 use Rattle.session.specs.Open.{opened, opening, Opens}
 use Rattle.sender.specs.Sender.{Framed, sent_octets, AllWellFormed, pieces_of, Stream, Sender}
@@ -75,7 +75,7 @@ sender = record {
 }
 
 abbrev pub begun : Opened
-begun = record { session = opened 2 0; answer = answer.Accepted }
+begun = record { session = opened 2 0; answer = (Ok tt) }
 
 pub opens : Opens 2 0 begun
 unfolding opening pick

@@ -1,6 +1,5 @@
 -- 10. Corners of demand 3 on one channel: packets, choices and a link, worked out on both sides.
-use Rattle.std.specs.Prelude.{ℕ, zero, suc, ◌≡◌, List, [], ◌∷◌, ◌++◌, replicate}
-use Rattle.counts.specs.declared.Loss.TheVariants.{Unknown, Known}
+use Rattle.std.specs.Prelude.{ℕ, zero, suc, ◌≡◌, List, [], ◌∷◌, ◌++◌, replicate, Some, None}
 use Rattle.rules.specs.Channel.{Piece, fresh}
 use Rattle.rules.specs.BothSides.{packet_of, out}
 use Rattle.sender.specs.Stream.{Choice, raw, next, frames_by}
@@ -27,11 +26,11 @@ abbrev pub two : List (List ℕ)
 two = packet_of 16 1 ∷ packet_of 30 2 ∷ []
 
 abbrev pub loss : ℕ → ℕ → LostAt
-loss a n = lost_at a (Known n)
+loss a n = lost_at a (Some n)
 
 -- At the first arrival.
 abbrev pub at_first : ℕ → LostAt
-at_first a = lost_at a Unknown
+at_first a = lost_at a None
 
 -- An empty frame is lost inside the first packet.
 abbrev pub gap : List Fate

@@ -1,6 +1,6 @@
 -- 5. What a session says of one channel, and that it is what is expected.
 use Rattle.std.specs.Prelude.{ℕ, ◌≡◌, List, [], ◌∷◌, ◌++◌}
-use Rattle.counts.specs.declared.Loss.{Loss}
+use Rattle.counts.specs.Loss.{Loss}
 use Rattle.rules.specs.Channel.{Handed}
 use Rattle.about_delivery.specs.Link.{Fate}
 use Rattle.about_delivery.specs.Expected.{expected, LostAt, lost_at, expected_losses}

@@ -1,9 +1,8 @@
 -- 4. What is to come out of one channel, said by which frame carries each octet.
-use Rattle.std.specs.Prelude.{ℕ, suc, ◌-◌, ◌≤◌, List, [], ◌∷◌, ◌++◌, Bool, true, false, ◌&&◌, cond, length, get_or, drop, replicate, leb, eqb}
+use Rattle.std.specs.Prelude.{ℕ, suc, ◌-◌, ◌≤◌, List, [], ◌∷◌, ◌++◌, Bool, true, false, ◌&&◌, cond, length, get_or, drop, replicate, leb, eqb, Some, None}
 use Rattle.std.proofs.Math.Option.{Option, none, some}
 use Rattle.std.proofs.Math.Seq.{slice}
-use Rattle.counts.specs.declared.Loss.{Loss}
-use Rattle.counts.specs.declared.Loss.TheVariants.{Unknown, Known}
+use Rattle.counts.specs.Loss.{Loss}
 use Rattle.counts.specs.Lost.{number}
 use Rattle.frame.specs.Limits.{raw_data, none_starts}
 use Rattle.rules.specs.Channel.{Piece, Handed}
@@ -76,8 +75,8 @@ one_more (some n) = some (suc n)
 
 -- At the first arrival it is unknown.
 abbrev pub told_as : Option ℕ → Loss
-told_as none = Unknown
-told_as (some n) = Known n
+told_as none = None
+told_as (some n) = Some n
 
 abbrev pub losses_after : Option ℕ → List Fate → List LostAt
 losses_after so [] = []

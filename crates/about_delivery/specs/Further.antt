@@ -1,7 +1,6 @@
 -- 9. What else is proved of a run: independence of channels, nothing lost, the bounds of a frame, the master loss, what is refused.
-use Rattle.std.specs.Prelude.{ℕ, ◌+◌, ◌%◌, ◌≤◌, ◌<◌, ◌≡◌, List, [], ◌∷◌, ◌++◌, map, true, false, length}
-use Rattle.counts.specs.declared.Loss.{Loss}
-use Rattle.counts.specs.declared.Loss.TheVariants.{Unknown, Known}
+use Rattle.std.specs.Prelude.{ℕ, ◌+◌, ◌%◌, ◌≤◌, ◌<◌, ◌≡◌, List, [], ◌∷◌, ◌++◌, map, true, false, length, Some, None}
+use Rattle.counts.specs.Loss.{Loss}
 use Rattle.answer.specs.Refusals as no
 use Rattle.frame.specs.Frame.{read_frame}
 use Rattle.frame.specs.Limits.{longest_time}
@@ -72,8 +71,8 @@ master_losses (c ∷ cs) =
     when (answer_of c).accepted (lost_at (answer_of c).fields.arrival (answer_of c).fields.master) ++ master_losses cs
 
 abbrev pub loss_modulo256 : Loss → Loss
-loss_modulo256 Unknown = Unknown
-loss_modulo256 (Known n) = Known (n % 256)
+loss_modulo256 None = None
+loss_modulo256 (Some n) = Some (n % 256)
 
 abbrev pub modulo256 : LostAt → LostAt
 modulo256 l = lost_at l.arrival (loss_modulo256 l.lost)

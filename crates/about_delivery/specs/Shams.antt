@@ -1,9 +1,8 @@
 -- 11. Shams: second definitions of what comes of a channel's frames, each with a recording on which demand 3's conclusion fails of it.
-use Rattle.std.specs.Prelude.{ℕ, zero, suc, ◌<◌, ◌≡◌, List, [], ◌∷◌, map, cond, ◌||◌, length, take, drop, ltb, eqb}
+use Rattle.std.specs.Prelude.{ℕ, zero, suc, ◌<◌, ◌≡◌, List, [], ◌∷◌, map, cond, ◌||◌, length, take, drop, ltb, eqb, Some, None}
 use Rattle.std.proofs.Math.Option.{Option, none, some}
 use Rattle.octets.specs.Numbers.{at, word}
-use Rattle.counts.specs.declared.Loss.{Loss}
-use Rattle.counts.specs.declared.Loss.TheVariants.{Unknown, Known}
+use Rattle.counts.specs.Loss.{Loss}
 use Rattle.counts.specs.Lost.{lost_since, number}
 use Rattle.frame.specs.Limits.{raw_data}
 use Rattle.rules.specs.Channel.{held_of, Handed, given, Channel, fresh, answer, step, follow, after_loss}
@@ -46,12 +45,12 @@ abbrev pub joins_at_first : List Offer → List Report
 joins_at_first [] = []
 joins_at_first (o ∷ os) =
     report o.arrival (step o.arrival fresh o.frame) ∷ map
-    (λ (p : Offer). record { arrival = p.arrival; lost = Known 0; headers = 0; packets = [] }) os
+    (λ (p : Offer). record { arrival = p.arrival; lost = Some 0; headers = 0; packets = [] }) os
 
 -- It invents losses: after the first frame, one more than there was, and then goes by rule 1.
 abbrev pub invented : Option ℕ → ℕ → Loss
-invented none count = Unknown
-invented (some last) count = Known (suc (number (lost_since (some last) count)))
+invented none count = None
+invented (some last) count = Some (suc (number (lost_since (some last) count)))
 
 abbrev pub invents_losses : List Offer → List Report
 invents_losses os =
@@ -65,15 +64,15 @@ retelling tell os =
 
 -- It withholds losses: none, wherever there is a last count.
 abbrev pub withheld : Loss → Loss
-withheld Unknown = Unknown
-withheld (Known n) = Known 0
+withheld None = None
+withheld (Some n) = Some 0
 
 abbrev pub withholds_losses : List Offer → List Report
 withholds_losses os = retelling withheld os
 
 -- It calls every loss unknown.
 abbrev pub calls_unknown : List Offer → List Report
-calls_unknown os = retelling (λ l. Unknown) os
+calls_unknown os = retelling (λ l. None) os
 
 -- It keeps what is held across a lost frame.
 abbrev pub holds_across : List Offer → List Report
@@ -91,7 +90,7 @@ abbrev pub reads_c : List Offer → List Report
 reads_c os =
     map (λ (o : Offer). record {
       arrival = o.arrival;
-      lost = Known 0;
+      lost = Some 0;
       headers = 0;
       packets = map (λ (p : List ℕ). given o.arrival (held_of o.arrival p)) (cut_by_c 16 (drop o.frame.pointer o.frame.octets));
     }) os

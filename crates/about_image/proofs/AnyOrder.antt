@@ -1,4 +1,5 @@
 -- Lines in any order: the list, two packets, one packet again, and a conflict.
+use Rattle.std.specs.Prelude.{Err}
 use Prim.Native.Nat.{ℕ}
 use native.Mathlib.Omega.{arith}
 use mathlib.Core.Path.{◌≡◌, refl, sym, ap, subst, ◌∙◌}
@@ -11,13 +12,12 @@ use mathlib.Core.List.{Permᴰ}
 use borrow.Author.Tests.{ne_eqb}
 use Rattle.octets.specs.Numbers.{at}
 use Rattle.octets.proofs.Choices.{picked}
-use Rattle.answer.specs.Refusals.{line_held}
+use Rattle.answer.specs.declared.Reason.TheVariants.{LineHeld}
 use Rattle.report.specs.Report.{pixels_of}
 use Rattle.octets.specs.Same.{same}
 use Rattle.image.specs.Line.{Image, Room, held_otherwise, placed}
 use Rattle.image.specs.Placing.{observed, placing, Places}
-use Rattle.image.specs.declared.Placed.{Placed}
-use Rattle.image.specs.declared.Placed.TheVariants as answers
+use Rattle.image.specs.Answers.{Placed}
 use Rattle.octets.proofs.Comparing.{same_is_equal}
 use Rattle.image.proofs.Told.{observed_apart}
 use Rattle.about_image.specs.Placings.{Arrived, line, row, Accepted, Alike, Agreeing, Placings, done, next}
@@ -134,10 +134,10 @@ module _ (wanted : ℕ) (held : Image) (a b : Arrived) (p : Accepted wanted held
       simp (ne_eqb _ 0 k, ap (row (placed held (line_to a))) (sym e) ∙ row-placed held (line_to a) f, not_same _ refl)
 
   refuses : {y : Placed} {j : Image} → Places b.packet b.arrival wanted (placed held (line_to a)) y j
-      → (y ≡ answers.Refused line_held) × (j ≡ placed held (line_to a))
+      → (y ≡ Err LineHeld) × (j ≡ placed held (line_to a))
   unfolding placing
   refuses {y} {j} c =
-      let o : observed y j ≡ observed (answers.Refused line_held) (placed held (line_to a)) =
+      let o : observed y j ≡ observed (Err LineHeld) (placed held (line_to a)) =
       c ∙ placed_or_held wanted (placed held (line_to a)) b (ready wanted held b q).line
       (placed-room held (line_to a) (fits wanted held a r))
       ∙ sym (picked _ _ _ held_otherwise_lem) in
@@ -145,7 +145,7 @@ module _ (wanted : ℕ) (held : Image) (a b : Arrived) (p : Accepted wanted held
       (ap (λ z. z.0) k, ap (λ z. z.1) k)
 
   first-stays : {xs : List Placed} {i : Image} → Placings wanted held (a ∷ b ∷ []) xs i
-      → (xs ≡ answer_of a ∷ answers.Refused line_held ∷ []) × (row i (line a) ≡ pixels_of a.packet)
+      → (xs ≡ answer_of a ∷ Err LineHeld ∷ []) × (row i (line a) ≡ pixels_of a.packet)
   first-stays (next {j = j} {x = x} c (next {j = k} {x = y} d done)) =
       let u = places wanted held a r {x = x} {j = j} c in
       let w = refuses {y = y} {j = k} (subst (λ (l : Image). Places b.packet b.arrival wanted l y k) u.1 d) in

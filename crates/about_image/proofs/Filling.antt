@@ -12,7 +12,7 @@ use lib.Seq.{drop-set-lt}
 use Rattle.octets.specs.Numbers.{at}
 use Rattle.report.specs.Report.{pixels_of}
 use Rattle.image.specs.Line.{image_lines, Image, number, placed}
-use Rattle.image.specs.declared.Placed.{Placed}
+use Rattle.image.specs.Answers.{Placed}
 use Rattle.about_image.specs.Placings.{Arrived, line, row, Alike, Placings, done, next, Filled}
 use Rattle.about_image.specs.Placings.{Number, of_held, of_packet, Smallest, smallest, none}
 use Rattle.about_image.specs.AnyOrder.{answer_of, Fills}

@@ -13,7 +13,7 @@ use Rattle.octets.proofs.Choices.{passed}
 use Rattle.report.specs.Report.{pixels_of}
 use Rattle.image.specs.Line.{image_lines, Image, Room, Line, Fits, held_otherwise, number, placed}
 use Rattle.image.specs.Placing.{observed, placing, Places}
-use Rattle.image.specs.declared.Placed.{Placed}
+use Rattle.image.specs.Answers.{Placed}
 use Rattle.octets.proofs.Comparing.{same_is_equal}
 use Rattle.image.proofs.Told.{observed_apart}
 use Rattle.about_image.specs.Placings.{Arrived, line, row, Alike}

@@ -1,17 +1,16 @@
 -- M-113: lines in any order.
-use Rattle.std.specs.Prelude.{ℕ, ◌≡◌}
+use Rattle.std.specs.Prelude.{ℕ, ◌≡◌, Ok, Err}
 use mathlib.Core.List.{List, [], ◌∷◌, map, Memᴰ, Permᴰ}
-use Rattle.answer.specs.Refusals.{line_held}
+use Rattle.answer.specs.declared.Reason.TheVariants.{LineHeld}
 use Rattle.report.specs.Report.{pixels_of}
 use Rattle.image.specs.Line.{Image, Room}
 use Rattle.image.specs.Placing.{Places}
-use Rattle.image.specs.declared.Placed.{Placed}
-use Rattle.image.specs.declared.Placed.TheVariants as answers
+use Rattle.image.specs.Answers.{Placed}
 use Rattle.about_image.specs.Placings.{Arrived, line, row, Accepted, Alike, Agreeing, Placings, Filled}
 
 -- Each packet is accepted: the answer is its line.
 abbrev pub answer_of : Arrived → Placed
-answer_of a = answers.Line (line a)
+answer_of a = Ok (line a)
 
 -- The same packets with the same numbers, in any order and each as often as one likes.
 abbrev pub Same : List Arrived → List Arrived → Type 0
@@ -56,4 +55,4 @@ Conflicts =
     (wanted : ℕ) (held i j : Image) (a b : Arrived) (xs ys : List Placed) → Accepted wanted held a → Accepted wanted held b
     → line a ≡ line b → (pixels_of a.packet ≡ pixels_of b.packet → ⊥)
     → Placings wanted held (a ∷ b ∷ []) xs i → Placings wanted held (b ∷ a ∷ []) ys j
-    → (xs ≡ answer_of a ∷ answers.Refused line_held ∷ []) × (row i (line a) ≡ pixels_of a.packet) × (i ≡ j → ⊥)
+    → (xs ≡ answer_of a ∷ Err LineHeld ∷ []) × (row i (line a) ≡ pixels_of a.packet) × (i ≡ j → ⊥)

@@ -6,7 +6,7 @@ use Rattle.octets.specs.Parts.{part}
 use Rattle.report.specs.Report.{pixels_of, line_of}
 use Rattle.image.specs.Line.{line_pixels, image_lines, image_octets, start, Image}
 use Rattle.image.specs.Placing.{outcome, Places}
-use Rattle.image.specs.declared.Placed.{Placed}
+use Rattle.image.specs.Answers.{Placed}
 
 -- A packet with its arrival number.
 pub record Arrived : Type 0 where

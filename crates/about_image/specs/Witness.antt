@@ -7,7 +7,7 @@ use Rattle.report.specs.Report.{pixels_of}
 use Rattle.report.specs.Write.{report_octets}
 use Rattle.image.specs.Line.{line_pixels, image_lines, Image, Room}
 use Rattle.image.specs.Back.{line_report}
-use Rattle.image.specs.declared.Placed.{Placed}
+use Rattle.image.specs.Answers.{Placed}
 use Rattle.about_image.specs.Placings.{Arrived, line, row, Accepted, Agreeing, Placings}
 
 -- 188 pixels alike.

@@ -1,4 +1,5 @@
 -- What the packets of one call add, each in its place, by what a receiver tells.
+use Rattle.std.specs.Prelude.{Ok, Err}
 use Prim.Native.Nat.{ℕ, suc, ◌+◌, ◌-◌, ◌<◌, ◌%◌, ◌^◌}
 use native.Mathlib.Omega.{arith}
 use native.Mathlib.Nat.{mod-eq_of_lt, add-zero}
@@ -21,8 +22,7 @@ use Rattle.session.specs.Lent.{Lent, laid}
 use Rattle.session.specs.Step.{Outcome}
 use Rattle.session.specs.declared.Accepted.{Accepted}
 use Rattle.session.specs.declared.Session.{Session}
-use Rattle.session.specs.declared.StepAnswer.{StepAnswer}
-use Rattle.session.specs.declared.StepAnswer.TheVariants as answer
+use Rattle.session.specs.Answers.{StepAnswer}
 use Rattle.session.proofs.Few.{Few, offer-few}
 use Rattle.receiver.specs.Receive.{Tells, missing, bad, over, opened, nothing, answered, told_of, heard}
 use Rattle.receiver.specs.declared.Event.{Event}
@@ -183,8 +183,8 @@ answer-adds : (l : Layouts) (ps : List Handed) (t : Lent) (packets : ℕ) (count
     → Few_told (told_of (event.Answered x)) ps
     → answer_adds l x (laid ps t) packets counts ≡ tells_add l (told_of (event.Answered x)) ps packets counts
 unfolding pick
-answer-adds l ps t packets counts (answer.Accepted a) f = frame-adds l a ps f.1 t packets counts f.0
-answer-adds l ps t packets counts (answer.Refused r) f = refl
+answer-adds l ps t packets counts (Ok a) f = frame-adds l a ps f.1 t packets counts f.0
+answer-adds l ps t packets counts (Err r) f = refl
 
 pub event_adds_lem : (l : Layouts) (ps : List Handed) (t : Lent) (packets : ℕ) (counts : List ℕ) (e : Event) → Few_told (told_of e) ps
     → event_adds l e (laid ps t) packets counts ≡ tells_add l (told_of e) ps packets counts
@@ -200,8 +200,8 @@ none_more packets h = ap (λ (k : ℕ). k % 2 ^ 64) (add-zero packets) ∙ mod-e
 
 answer-next : (ps : List Handed) (packets : ℕ) (x : StepAnswer) → Few_told (told_of (event.Answered x)) ps
     → numbered packets (answer_hands x) ≡ numbered packets (length ps)
-answer-next ps packets (answer.Accepted a) f = ap (numbered packets) f.0
-answer-next ps packets (answer.Refused r) f = ap (numbered packets) f.0
+answer-next ps packets (Ok a) f = ap (numbered packets) f.0
+answer-next ps packets (Err r) f = ap (numbered packets) f.0
 
 pub event_next : (ps : List Handed) (packets : ℕ) → packets < 2 ^ 64 → (e : Event) → Few_told (told_of e) ps
     → numbered packets (event_hands e) ≡ tells_next (told_of e) ps packets

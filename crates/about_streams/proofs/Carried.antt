@@ -20,7 +20,7 @@ use Rattle.frame.proofs.Accepts.{accepts}
 use Rattle.stretch.specs.Stretch.{Stretch, found, unread, clipped, most_kept}
 use Rattle.kiss.proofs.Checks.{too_long, clipped-alike}
 use Rattle.session.specs.Lent.{Lent}
-use Rattle.session.specs.Step.{counted, accepted, refused_at, admitted, outcome}
+use Rattle.session.specs.Step.{counted, refused_at, admitted, outcome}
 use Rattle.session.specs.Statements.{offered}
 use Rattle.session.specs.declared.Session.{Session}
 use Rattle.sender.specs.Sender.{Framed, sent_octets, AllWellFormed, when, of_channel, piece_of}

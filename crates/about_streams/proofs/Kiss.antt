@@ -1,4 +1,5 @@
 -- KISS streams.
+use Rattle.std.specs.Prelude.{Ok}
 use Prim.Native.Nat.{ℕ, zero, suc, ◌≤◌}
 use mathlib.Core.Path.{◌≡◌, refl, sym, ap, ◌∙◌}
 use mathlib.Core.Bool.{true, false, not}
@@ -24,7 +25,6 @@ use Rattle.kiss.proofs.Finding.{scans_find}
 use Rattle.kiss.proofs.Pieces.{in_any_pieces}
 use Rattle.kiss.proofs.Checks as checks
 use Rattle.kiss_writer.specs.Export.{stream_of, first_bad, exporting}
-use Rattle.kiss_writer.specs.declared.Exported.TheVariants.{Length}
 use Rattle.kiss_writer.proofs.Told.{told_apart}
 use Rattle.kiss_writer.proofs.Back.{calls-found-again}
 use Rattle.session.specs.Lent.{Lent}
@@ -102,7 +102,7 @@ sent_are_taken t short frames s link octets lengths out r out' adds e room x =
     let says : accept (length (stream_of (cut octets lengths))) ≡ exporting t octets lengths out =
     passed _ _ _ _ (le-ltb _ _ short)
     (passed _ _ _ _ right (passed _ _ _ _ (le-ltb _ _ room) refl ∙ picked _ _ _ good)) in
-    told_apart r (Length (length (stream_of (cut octets lengths)))) (x.answers ∙ sym says)
+    told_apart r (Ok (length (stream_of (cut octets lengths)))) (x.answers ∙ sym says)
 
 -- ---- 11
 

@@ -1,8 +1,7 @@
 -- Recordings of raw bits.
-use Rattle.std.specs.Prelude.{ℕ, ◌≤◌, ◌<◌, ◌≡◌, List, map, length, take}
+use Rattle.std.specs.Prelude.{ℕ, ◌≤◌, ◌<◌, ◌≡◌, List, map, length, take, Ok}
 use Rattle.octets.specs.Numbers.{at}
-use Rattle.answer.specs.declared.Written.{Written}
-use Rattle.answer.specs.declared.Written.TheVariants.{Length}
+use Rattle.answer.specs.Writer.{Written}
 use Rattle.rules.specs.Packets.{cut, total}
 use Rattle.stretch.specs.Stretch.{Stretch}
 use Rattle.sender.specs.Sender.{Framed, sent_octets, Sender}
@@ -32,7 +31,7 @@ abbrev pub WrittenCarry : Type 0
 WrittenCarry =
     (t : ℕ) (frames : List Framed) (link : List Passing) → Quiet link
     → (octets lengths out : List ℕ) (n : ℕ) (out' : List ℕ) → ((i : ℕ) → at octets i < 256)
-    → cut octets lengths ≡ map (sent_octets t) (kept link frames) → WroteFrames octets lengths out (Length n) out'
+    → cut octets lengths ≡ map (sent_octets t) (kept link frames) → WroteFrames octets lengths out (Ok n) out'
     → stretches_in (take n out') ≡ arriving t link frames
 
 -- No frame that arrives from a sender is refused: with room for the stream, the writer of those that arrive answers its length.
@@ -42,4 +41,4 @@ SentAreTaken =
     → (link : List Passing) (octets lengths out : List ℕ) (r : Written) (out' : List ℕ)
     → total lengths ≡ length octets → cut octets lengths ≡ map (sent_octets t) (kept link frames)
     → length (stream_of (cut octets lengths)) ≤ length out → WroteFrames octets lengths out r out'
-    → r ≡ Length (length (stream_of (cut octets lengths)))
+    → r ≡ Ok (length (stream_of (cut octets lengths)))

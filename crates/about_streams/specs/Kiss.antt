@@ -1,5 +1,5 @@
 -- KISS streams.
-use Rattle.std.specs.Prelude.{ℕ, ◌≤◌, ◌<◌, ◌≡◌, List, [], ◌∷◌, map, length, take}
+use Rattle.std.specs.Prelude.{ℕ, ◌≤◌, ◌<◌, ◌≡◌, List, [], ◌∷◌, map, length, take, Ok}
 use Rattle.octets.specs.Numbers.{at}
 use Rattle.answer.specs.Refusals as no
 use Rattle.frame.specs.Limits.{longest_time}
@@ -14,8 +14,7 @@ use Rattle.kiss.specs.Stream.{stretches_in}
 use Rattle.kiss.specs.Reader.{standing, fresh}
 use Rattle.kiss.specs.Statements.{Scans, joined}
 use Rattle.kiss_writer.specs.Export.{stream_of, Exports}
-use Rattle.kiss_writer.specs.declared.Exported.{Exported}
-use Rattle.kiss_writer.specs.declared.Exported.TheVariants.{Length}
+use Rattle.kiss_writer.specs.Answers.{Exported}
 use Rattle.about_streams.specs.Carried.{Faithful, Carries, Readable, Quiet}
 
 -- What scans by a new reader tell of a stream in some pieces.
@@ -40,7 +39,7 @@ abbrev pub ExportsCarry : Type 0
 ExportsCarry =
     (t : ℕ) (frames : List Framed) (link : List Passing) → Quiet link
     → (octets lengths out : List ℕ) (n : ℕ) (out' : List ℕ) → ((i : ℕ) → at octets i < 256)
-    → cut octets lengths ≡ map (sent_octets t) (kept link frames) → Exports t octets lengths out (Length n) out'
+    → cut octets lengths ≡ map (sent_octets t) (kept link frames) → Exports t octets lengths out (Ok n) out'
     → stretches_in (take n out') ≡ arriving t link frames
 
 -- No frame that arrives from a sender is refused: with room for the stream, the export of those that arrive answers its length.
@@ -50,7 +49,7 @@ SentAreTaken =
     → (link : List Passing) (octets lengths out : List ℕ) (r : Exported) (out' : List ℕ)
     → total lengths ≡ length octets → cut octets lengths ≡ map (sent_octets t) (kept link frames)
     → length (stream_of (cut octets lengths)) ≤ length out → Exports t octets lengths out r out'
-    → r ≡ Length (length (stream_of (cut octets lengths)))
+    → r ≡ Ok (length (stream_of (cut octets lengths)))
 
 -- What holds of each of some stretches.
 abbrev pub Each : (Stretch → Type 0) → List Stretch → Type 0

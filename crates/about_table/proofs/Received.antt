@@ -1,4 +1,5 @@
 -- The packet in two frames is received, and what is told of two tables.
+use Rattle.std.specs.Prelude.{Ok, Err}
 use Prim.Native.Nat.{ℕ, zero, suc, ◌<◌}
 use native.Mathlib.Omega.{arith}
 use mathlib.Core.Path.{◌≡◌, refl, sym, ap, ◌∙◌, subst}
@@ -16,8 +17,7 @@ use Rattle.packet.specs.Packet.{length_wrong, read_packet}
 use Rattle.rules.specs.Channel.{Handed}
 use Rattle.rules.specs.Packets.{Good}
 use Rattle.session.specs.declared.Session.{Session}
-use Rattle.session.specs.declared.StepAnswer.{StepAnswer}
-use Rattle.session.specs.declared.StepAnswer.TheVariants as answer
+use Rattle.session.specs.Answers.{StepAnswer}
 use Rattle.session.specs.Lent.{Lent}
 use Rattle.session.specs.Step.{told}
 use Rattle.sender.specs.Sender.{AllWellFormed, Stream, Sender, when}
@@ -39,8 +39,8 @@ use Rattle.about_table.proofs.Runs.{of_eight}
 -- where the other channels hand out nothing, all is channel 0's
 nothing-refused : (x : StepAnswer) (l : Lent) → (told x).accepted ≡ false → read_out (told x).fields.arrival
     (told x).fields.packets l ≡ []
-nothing-refused (answer.Accepted a) l e = absurd (true≢false e)
-nothing-refused (answer.Refused r) l e = refl
+nothing-refused (Ok a) l e = absurd (true≢false e)
+nothing-refused (Err r) l e = refl
 
 none-front : (xs ys : List Handed) → xs ++ ys ≡ [] → xs ≡ []
 none-front [] ys e = refl

@@ -1,4 +1,5 @@
 -- What a run hands out, call by call.
+use Rattle.std.specs.Prelude.{Ok, Err}
 use Prim.Native.Nat.{ℕ, zero, suc, ◌-◌, ◌≤◌, ◌<◌}
 use native.Mathlib.Decide.{dec_lt}
 use native.Mathlib.Omega.{arith}
@@ -17,8 +18,7 @@ use Rattle.frame.proofs.Tells.{read-tells}
 use Rattle.rules.specs.Channel.{Handed}
 use Rattle.session.specs.declared.Session.{Session}
 use Rattle.session.specs.declared.Accepted.{Accepted}
-use Rattle.session.specs.declared.StepAnswer.{StepAnswer}
-use Rattle.session.specs.declared.StepAnswer.TheVariants as answer
+use Rattle.session.specs.Answers.{StepAnswer}
 use Rattle.session.specs.Lent.{Lent}
 use Rattle.session.specs.Step.{Outcome, refused_at, counted, accepted, heeded, outcome, turned_away, told, Gives}
 use Rattle.session.specs.Statements.{offered}
@@ -60,8 +60,8 @@ offer_fair s (unread n) l = admitted_picks (Fair s) s l _ (λ a. counted_fair s 
 -- a refusal hands nothing out
 accepted_by : (x : StepAnswer) (l : Lent) (i : ℕ) (h : Handed) → get_elem?
     (read_out (told x).fields.arrival (told x).fields.packets l) i ≡ some h → (told x).accepted ≡ true
-accepted_by (answer.Accepted a) l i h e = refl
-accepted_by (answer.Refused r) l i h e = nothing-there e
+accepted_by (Ok a) l i h e = refl
+accepted_by (Err r) l i h e = nothing-there e
 
 module _ (s : Session) (c : Call) (g : Gives (offered s c.offer c.lent) c.result c.lent c.left) where
   abbrev o : Outcome

@@ -5,9 +5,8 @@ use mathlib.Core.List.{List}
 use mathlib.Core.Bool.{false}
 use Rattle.octets.specs.Numbers.{at}
 use Rattle.answer.specs.Told.{Told, accept}
-use Rattle.answer.specs.Writer.{Wrote, Gave}
+use Rattle.answer.specs.Writer.{Written, Wrote, Gave}
 use Rattle.answer.specs.Back.{Format, CallsBack}
-use Rattle.answer.specs.declared.Written.{Written}
 use Rattle.answer.proofs.Writer.{gives, wrote_right}
 
 -- what the calls of a format promise, by definitions that undo one another

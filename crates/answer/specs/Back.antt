@@ -1,10 +1,8 @@
 -- Demand 2 over the calls, once for every format: what a call of its writer left, calls of its reader and of those that find what stands
 -- beside the fields undo, and the other way round.
-use Rattle.std.specs.Prelude.{ℕ, ◌≤◌, ◌<◌, ◌≡◌, List, Bool, false, length, take}
+use Rattle.std.specs.Prelude.{ℕ, ◌≤◌, ◌<◌, ◌≡◌, List, Bool, false, length, take, Ok}
 use Rattle.octets.specs.Numbers.{at}
-use Rattle.answer.specs.Writer.{Gave}
-use Rattle.answer.specs.declared.Written.{Written}
-use Rattle.answer.specs.declared.Written.TheVariants.{Length}
+use Rattle.answer.specs.Writer.{Written, Gave}
 
 -- A format with fields A, octets beside them B (data, time, source data, strings), and the reader's answers R.
 pub record Format (A B R : Type 0) : Type 1 where
@@ -31,10 +29,10 @@ module _ {A B R : Type 0} (f : Format A B R) where
     -- A call of the writer with fields that are right, on an output with room, writes.
     pub takes :
         (a : A) (b : B) (out : List ℕ) (r : Written) (out' : List ℕ)
-        → f.wrong a b ≡ false → length (f.octets a b) ≤ length out → f.Writes a b out r out' → r ≡ Length (length (f.octets a b))
+        → f.wrong a b ≡ false → length (f.octets a b) ≤ length out → f.Writes a b out r out' → r ≡ Ok (length (f.octets a b))
     -- What a call of the writer wrote is read again as what it was given.
     pub reads :
-        (a : A) (b : B) (out : List ℕ) (n : ℕ) (out' : List ℕ) → f.Writes a b out (Length n) out' → ReadAs a b (take n out')
+        (a : A) (b : B) (out : List ℕ) (n : ℕ) (out' : List ℕ) → f.Writes a b out (Ok n) out' → ReadAs a b (take n out')
     -- Octets that a call of the reader accepts are what every call of the writer with those fields, and with what calls found beside
     -- them, gives, on an output with room.
     pub writes :

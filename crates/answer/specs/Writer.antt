@@ -1,16 +1,19 @@
 -- What every writer answers and leaves.
-use Rattle.std.specs.Prelude.{ℕ, ◌≤◌, ◌≡◌, List, [], ◌∷◌, Bool, false, length, take, ltb}
+use Rattle.std.specs.Prelude.{ℕ, ◌≤◌, ◌≡◌, List, [], ◌∷◌, Bool, false, length, take, ltb, Result, Ok, Err}
 use Rattle.octets.specs.Pick.{pick}
 use Rattle.octets.specs.Parts.{written}
-use Rattle.answer.specs.Told.{Told, accept, refuse, TellsNothing}
+use Rattle.answer.specs.Told.{Told, accept, refuse, refuse_for, TellsNothing}
 use Rattle.answer.specs.Refusals.{output_short, field_range}
-use Rattle.answer.specs.declared.Written.{Written}
-use Rattle.answer.specs.declared.Written.TheVariants.{Length, Refused}
+use Rattle.answer.specs.declared.Reason.{Reason}
+
+-- What a writer answers: the length, or why it refused.
+abbrev pub Written : Type 0
+Written = Result ℕ Reason
 
 -- A writer's answer tells the length, or the refusal and the length 0.
 abbrev pub told : Written → Told ℕ
-told (Length n) = accept n
-told (Refused n) = refuse 0 n
+told (Ok n) = accept n
+told (Err r) = refuse_for 0 r
 
 abbrev pub RefusalsTellNothing : Type 0
 RefusalsTellNothing = TellsNothing told (λ n. n ∷ [])
@@ -31,7 +34,7 @@ pub record Wrote (wrong : Bool) (octets out : List ℕ) (r : Written) (out' : Li
 
 -- What a writer gives: it answers the octets' number and leaves them at the output's start.
 pub record Gave (octets : List ℕ) (r : Written) (out' : List ℕ) : Type 0 where
-  pub answers : r ≡ Length (length octets)
+  pub answers : r ≡ Ok (length octets)
   pub leaves : take (length octets) out' ≡ octets
 
 -- So it does where no field is wrong and the output has room.

@@ -39,22 +39,21 @@ pub fn brought(read: Refilled) -> bool
 pub fn form(name: &[u8], table: &window::Source, buffer: &mut [u8]) -> Formed
     ensures { Looped buffer.old result buffer.new }
 {
-    let fresh = Form::fresh();
-    let none = Refilled::none();
     let mut reading = Reading {
-        form: fresh,
-        read: none,
+        form: Form::fresh(),
+        read: Refilled::none(),
         going: true,
     };
-    let mut made: u64 = 0;
-    while reading.going {
-        if made == READS {
+    for made in 0..READS {
+        if !reading.going {
             return Formed { reading, made };
         }
         reading = reading.more(name, table, buffer);
-        made += 1;
     }
-    Formed { reading, made }
+    Formed {
+        reading,
+        made: READS,
+    }
 }
 
 impl Reading {
@@ -62,10 +61,9 @@ impl Reading {
     fn more(self, name: &[u8], table: &window::Source, buffer: &mut [u8]) -> Reading
         ensures { Grows self buffer.old result buffer.new }
     {
-        let before = self.form;
         let read = window::refill(name, table, buffer, 0, 0);
         let have = read.have();
-        let form = before.read(window::hand(buffer, 0, have));
+        let form = self.form.read(window::hand(buffer, 0, have));
         let going = brought(read);
         Reading { form, read, going }
     }

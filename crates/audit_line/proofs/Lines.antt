@@ -3,7 +3,7 @@ use Prim.Native.Nat.{ℕ, ◌+◌, ◌≤◌}
 use mathlib.Core.Path.{◌≡◌, refl, ap}
 use mathlib.Core.List.{List, [], ◌∷◌, ◌++◌, append_assoc}
 use native.Mathlib.Omega.{arith}
-use borrow.Author.Tests.{eq-eqb, ne_eqb}
+use borrow.Author.Tests.{ne_eqb}
 use lib.ListN.{length, length-append}
 use Rattle.octets.specs.Pick.{pick}
 use Rattle.octets.specs.Parts.{put}
@@ -18,34 +18,29 @@ use Rattle.audit_line.specs.Text.{badly_formed, out_of_order, no_packet, no_valu
 use Rattle.audit_line.specs.Text.{longest_verdict, VerdictsAreShort}
 
 -- the words, by the number
-module _ (n : ℕ) where
-  pub form_words : n ≡ 70 → badly_formed ≡ words_of n
-  unfolding words_of pick
-  form_words h = simp (eq-eqb n 70 h)
+pub form_words : {n : ℕ} → n ≡ 70 → badly_formed ≡ words_of n
+unfolding words_of pick
+form_words h = rw h
 
-  module _ (a : n ≡ 70 → ⊥) where
-    pub order_words : n ≡ 71 → out_of_order ≡ words_of n
-    unfolding words_of pick
-    order_words h = simp (ne_eqb n 70 a, eq-eqb n 71 h)
+pub order_words : {n : ℕ} → n ≡ 71 → out_of_order ≡ words_of n
+unfolding words_of pick
+order_words h = rw h
 
-    module _ (b : n ≡ 71 → ⊥) where
-      pub packet_words : n ≡ 72 → no_packet ≡ words_of n
-      unfolding words_of pick
-      packet_words h = simp (ne_eqb n 70 a, ne_eqb n 71 b, eq-eqb n 72 h)
+pub packet_words : {n : ℕ} → n ≡ 72 → no_packet ≡ words_of n
+unfolding words_of pick
+packet_words h = rw h
 
-      module _ (c : n ≡ 72 → ⊥) where
-        pub value_words : n ≡ 73 → no_value ≡ words_of n
-        unfolding words_of pick
-        value_words h = simp (ne_eqb n 70 a, ne_eqb n 71 b, ne_eqb n 72 c, eq-eqb n 73 h)
+pub value_words : {n : ℕ} → n ≡ 73 → no_value ≡ words_of n
+unfolding words_of pick
+value_words h = rw h
 
-        module _ (d : n ≡ 73 → ⊥) where
-          pub claim_words : n ≡ 74 → too_early ≡ words_of n
-          unfolding words_of pick
-          claim_words h = simp (ne_eqb n 70 a, ne_eqb n 71 b, ne_eqb n 72 c, ne_eqb n 73 d, eq-eqb n 74 h)
+pub claim_words : {n : ℕ} → n ≡ 74 → too_early ≡ words_of n
+unfolding words_of pick
+claim_words h = rw h
 
-          pub no_words : (n ≡ 74 → ⊥) → [] ≡ words_of n
-          unfolding words_of pick
-          no_words h = simp (ne_eqb n 70 a, ne_eqb n 71 b, ne_eqb n 72 c, ne_eqb n 73 d, ne_eqb n 74 h)
+pub no_words : (n : ℕ) → (n ≡ 70 → ⊥) → (n ≡ 71 → ⊥) → (n ≡ 72 → ⊥) → (n ≡ 73 → ⊥) → (n ≡ 74 → ⊥) → [] ≡ words_of n
+unfolding words_of pick
+no_words n a b c d e = simp (ne_eqb n 70 a, ne_eqb n 71 b, ne_eqb n 72 c, ne_eqb n 73 d, ne_eqb n 74 e)
 
 pub words_laid : (n : ℕ) {words out out' : List ℕ} {at r : ℕ} → words ≡ words_of n → Laid longest_words (spoken words) out at out' r
     → Laid longest_words (spoken (words_of n)) out at out' r

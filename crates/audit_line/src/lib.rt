@@ -48,26 +48,18 @@ fn words(out: &mut [u8], at: usize, reason: u16) -> usize
     requires { at + longest_words ≤ length out.old }
     ensures { Laid longest_words (spoken (words_of reason)) out.old at out.new result }
 {
-    if reason == answer::TABLE_FORM {
-        return lay(out, at, b" the table is badly formed\n");
-    }
-    if reason == answer::ROW_ORDER {
-        return lay(out, at, b" rows out of order\n");
-    }
-    if reason == answer::ROW_PACKET {
-        return lay(
+    match reason {
+        answer::TABLE_FORM => lay(out, at, b" the table is badly formed\n"),
+        answer::ROW_ORDER => lay(out, at, b" rows out of order\n"),
+        answer::ROW_PACKET => lay(
             out,
             at,
             b" no such packet or column, or a packet that was turned away\n",
-        );
+        ),
+        answer::ROW_VALUE => lay(out, at, b" the value is not in the packet\n"),
+        answer::ROW_CLAIM => lay(out, at, b" claimed before the frame arrived that told it\n"),
+        _ => lay(out, at, b" \n"),
     }
-    if reason == answer::ROW_VALUE {
-        return lay(out, at, b" the value is not in the packet\n");
-    }
-    if reason == answer::ROW_CLAIM {
-        return lay(out, at, b" claimed before the frame arrived that told it\n");
-    }
-    lay(out, at, b" \n")
 }
 
 // Puts a text into out, and answers the index behind it.

@@ -1,5 +1,6 @@
 -- Laws of packets that are gone on beside one after the other.
-use Prim.Native.Nat.{ℕ, suc, ◌+◌, ◌-◌, ◌*◌, ◌≤◌, ◌<◌}
+use Prim.Native.Nat.{ℕ, suc, ◌+◌, ◌-◌, ◌*◌, ◌≤◌, ◌<◌, min}
+use native.Mathlib.Decide.{dec_lt}
 use native.Mathlib.Omega.{arith}
 use native.Mathlib.Nat.{sub-zero}
 use native.Mathlib.Numerals.{add-one}
@@ -10,7 +11,7 @@ use lib.Seq.{drop-cons, take-nil}
 use Rattle.octets.specs.Numbers.{at}
 use Rattle.octets.specs.Parts.{part}
 use Rattle.rules.specs.Channel.{Handed}
-use Rattle.session.specs.declared.StepAnswer.{StepAnswer}
+use Rattle.session.specs.Answers.{StepAnswer}
 use Rattle.table.specs.Look.{handed}
 use Rattle.audit_rows.specs.Goes.{Goes}
 use Rattle.audit_rows.specs.Frame.{handed_from, handed_in, handed_by}
@@ -66,13 +67,14 @@ module _ (octets lengths : List ℕ) (packets arrival : ℕ) (a : Audit) (rows :
         subst (λ (ps : List Handed). Goes a rows ps b rows₁)
         (sym (g.cut ∙ ap (λ (l : List ℕ). g.past ++ handed_from arrival octets from l) e ∙ append-nil g.past)) g.goes
 
-    pub no_length : length lengths ≤ i → Goes a rows (handed_in arrival packets octets lengths) b rows₁
-    no_length h = all_past (ap (take (packets - i)) (drop_of_length-le lengths h) ∙ take-nil (packets - i))
-
-    pub no_packet_lem : packets ≤ i → Goes a rows (handed_in arrival packets octets lengths) b rows₁
-    no_packet_lem h =
-        let z : packets - i ≡ 0 = omega arith in
-        all_past (ap (λ (k : ℕ). take k (drop i lengths)) z)
+    pub all_done : min packets (length lengths) ≤ i → Goes a rows (handed_in arrival packets octets lengths) b rows₁
+    all_done h = by (dec_lt i packets)
+      where
+        by : Dec (i < packets) → Goes a rows (handed_in arrival packets octets lengths) b rows₁
+        by (yes l) = all_past (ap (take (packets - i)) (drop_of_length-le lengths (omega arith)) ∙ take-nil (packets - i))
+        by (no l) =
+            let z : packets - i ≡ 0 = omega (arith, l) in
+            all_past (ap (λ (k : ℕ). take k (drop i lengths)) z)
 
 -- by the answer
 module _ {x y : StepAnswer} (a : Audit) (rows octets lengths : List ℕ) {b : Audit} {rows' : List ℕ} where

@@ -1,9 +1,8 @@
 -- A whole second reading of a table tells the verdict of Table on what was read.
-use Rattle.std.specs.Prelude.{ℕ, ◌*◌, ◌<◌, ◌≡◌, ◌⊎◌, true, false, List, [], ◌++◌, length, drop}
+use Rattle.std.specs.Prelude.{ℕ, ◌*◌, ◌<◌, ◌≡◌, ◌⊎◌, true, false, List, [], ◌++◌, length, drop, Err}
 use Rattle.octets.specs.Numbers.{at}
 use Rattle.answer.specs.declared.Refusal.{Refusal}
 use Rattle.rules.specs.Channel.{Handed}
-use Rattle.session.specs.declared.StepAnswer.TheVariants as answer
 use Rattle.window.specs.Window.{Refills}
 use Rattle.table.specs.Table.{row_octets, rows_from, verdict}
 use Rattle.table.specs.Form.{known, started}
@@ -26,7 +25,7 @@ pub record Same (a : Audit) (rows more : List ℕ) (b : Audit) (rows' : List ℕ
 
 abbrev pub RefusedLeaves : Type 0
 RefusedLeaves = (a b : Audit) (rows more rows' octets lengths : List ℕ) (r : Refusal)
-    → Going a rows (handed_by (answer.Refused r) octets lengths) more b rows' → Same a rows more b rows'
+    → Going a rows (handed_by (Err r) octets lengths) more b rows' → Same a rows more b rows'
 
 abbrev pub OverStays : Type 0
 OverStays =

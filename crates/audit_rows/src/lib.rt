@@ -8,7 +8,8 @@ ghost use Rattle.table.specs.Look.{handed};
 ghost use Rattle.audit_rows.specs.Goes.{fresh, stopped, Turns, Goes, Fills, Ends};
 ghost use Rattle.audit_rows.specs.Frame.{handed_in, handed_by};
 
-use session::StepAnswer;
+use answer::Refusal;
+use session::Accepted;
 use table::{Check, Form, Verdict, Wanted};
 use window::Refilled;
 
@@ -36,13 +37,12 @@ impl Audit {
     pub fn fresh(check: Check) -> Audit
         ensures { result ≡ fresh check }
     {
-        let read = Refilled::none();
         Audit {
             check,
             at: 0,
             end: 0,
             over: false,
-            read,
+            read: Refilled::none(),
             verdict: Verdict::Passes,
         }
     }
@@ -54,17 +54,15 @@ impl Audit {
         name: &[u8],
         table: &window::Source,
         rows: &mut [u8],
-        answer: StepAnswer,
+        answer: Result<Accepted, Refusal>,
         octets: &[u8],
         lengths: &[u16],
     ) -> Audit
         ensures { Goes self rows.old (handed_by answer octets.now lengths.now) result rows.new }
     {
         match answer {
-            StepAnswer::Refused(_) => self,
-            StepAnswer::Accepted(a) => {
-                self.packets(name, table, rows, a.packets, a.arrival, octets, lengths)
-            }
+            Err(_) => self,
+            Ok(a) => { self.packets(name, table, rows, a.packets, a.arrival, octets, lengths) }
         }
     }
 
@@ -76,10 +74,7 @@ impl Audit {
             return self;
         }
         let audit = self.filled(name, table, rows);
-        let check = audit.check;
-        let at = audit.at;
-        let end = audit.end;
-        let verdict = check.end(window::hand(rows, at, end));
+        let verdict = audit.check.end(window::hand(rows, audit.at, audit.end));
         audit.stopped(verdict)
     }
 
@@ -87,15 +82,10 @@ impl Audit {
     fn stopped(self, verdict: Verdict) -> Audit
         ensures { result ≡ stopped self verdict }
     {
-        let check = self.check;
-        let read = self.read;
         Audit {
-            check,
-            at: self.at,
-            end: self.end,
             over: true,
-            read,
             verdict,
+            ..self
         }
     }
 
@@ -114,17 +104,12 @@ impl Audit {
             rows.new }
     {
         let mut audit = self;
-        let n = octets::wide(packets);
         let mut from = 0;
-        let mut i = 0;
-        while i < n {
-            if lengths.len() <= i {
-                return audit;
-            }
-            let size = lengths[i] as usize;
+        let n = usize::from(packets).min(lengths.len());
+        for &length in &lengths[..n] {
+            let size = usize::from(length);
             audit = audit.beside(name, table, rows, octets::part(octets, from, size), arrival);
             from += size;
-            i += 1;
         }
         audit
     }
@@ -163,26 +148,20 @@ impl Audit {
         ensures { Turns self rows.old (handed packet.now arrival) result rows.new }
     {
         let mut audit = self;
-        let before = self.check;
-        let at = self.at;
-        let end = self.end;
-        let looked = before.look(window::hand(rows, at, end), packet, arrival);
-        let check = looked.check;
-        let wanted = looked.wanted;
-        let from = at + looked.used;
-        audit.check = check;
+        let looked = self
+            .check
+            .look(window::hand(rows, self.at, self.end), packet, arrival);
+        let from = self.at + looked.used;
+        audit.check = looked.check;
         audit.at = from;
-        match wanted {
+        match looked.wanted {
             Wanted::Packet => Turned { audit, done: true },
-            Wanted::Nothing(verdict) => {
-                let last = audit.stopped(verdict);
-                Turned {
-                    audit: last,
-                    done: true,
-                }
-            }
+            Wanted::Nothing(verdict) => Turned {
+                audit: audit.stopped(verdict),
+                done: true,
+            },
             Wanted::Rows => {
-                let read = window::refill(name, table, rows, from, end);
+                let read = window::refill(name, table, rows, from, self.end);
                 let have = read.have();
                 audit.at = 0;
                 audit.end = have;
@@ -190,10 +169,9 @@ impl Audit {
                 if audit_form::brought(read) {
                     return Turned { audit, done: false };
                 }
-                let verdict = check.end(window::hand(rows, 0, have));
-                let last = audit.stopped(verdict);
+                let verdict = looked.check.end(window::hand(rows, 0, have));
                 Turned {
-                    audit: last,
+                    audit: audit.stopped(verdict),
                     done: true,
                 }
             }
@@ -205,13 +183,9 @@ impl Audit {
         ensures { Fills self rows.old result rows.new }
     {
         let mut audit = self;
-        let first = self.at;
-        let last = self.end;
-        let mut here = window::hand(rows, first, last).len();
+        let mut here = window::hand(rows, self.at, self.end).len();
         while here < Form::ROW {
-            let at = audit.at;
-            let end = audit.end;
-            let read = window::refill(name, table, rows, at, end);
+            let read = window::refill(name, table, rows, audit.at, audit.end);
             here = read.have();
             audit.at = 0;
             audit.end = here;

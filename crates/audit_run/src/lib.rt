@@ -56,9 +56,7 @@ fn readings(name: &[u8], path: &[u8], table: &Source, source: &Source, receiver:
     let mut buffer = io::large_buffer();
     let mut line = [0u8; audit_line::VERDICT];
     let formed = audit_form::form(name, table, &mut buffer);
-    let reading = formed.reading;
-    let form = reading.form;
-    let check = form.end();
+    let check = formed.reading.form.end();
     let status = first_status(formed, check);
     if status == window::BROKEN {
         return status;
@@ -99,9 +97,7 @@ fn sought(table: &Source, at: usize) -> Result<u64> {
 fn first_status(formed: Formed, check: Check) -> i32
     ensures { result ≡ first_status formed check }
 {
-    let reading = formed.reading;
-    let read = reading.read;
-    if reading.going | read.failed() {
+    if formed.reading.going | formed.reading.read.failed() {
         return window::BROKEN;
     }
     if check.formed {
@@ -165,26 +161,22 @@ fn rows(
         (lent octets.new lengths.new firsts.new) buffer.new }
 {
     let mut state = State::fresh(receiver, check);
-    let mut made: u64 = 0;
-    while state.going {
-        if made == TURNS {
+    for made in 0..TURNS {
+        if !state.going {
             return Stopped { state, made };
         }
         state = state.turn(
             name, table, source, input, buffer, kept, octets, lengths, firsts,
         );
-        made += 1;
     }
-    Stopped { state, made }
+    Stopped { state, made: TURNS }
 }
 
 // Whether a verdict stands: the input has ended, and no read of the table failed.
 fn stands(state: State) -> bool
     ensures { result ≡ standing state }
 {
-    let audit = state.audit;
-    let read = audit.read;
-    !state.going & state.ended & !read.failed()
+    !state.going & state.ended & !state.audit.read.failed()
 }
 
 // Writes the verdict's line, if one stands; what else there is to tell was told.
@@ -195,9 +187,7 @@ fn told(name: &[u8], state: State, line: &mut [u8]) -> Written
     if !stands(state) {
         return Written::none();
     }
-    let audit = state.audit;
-    let verdict = audit.verdict;
-    say(name, line, verdict)
+    say(name, line, state.audit.verdict)
 }
 
 // Writes the line of a verdict.
@@ -213,27 +203,23 @@ fn say(name: &[u8], line: &mut [u8], verdict: Verdict) -> Written
 fn state_status(state: State, written: Written) -> i32
     ensures { Ends state written.failed result }
 {
-    let audit = state.audit;
-    let read = state.read;
-    let last = audit.read;
     if state.going {
         return window::BROKEN;
     }
     if !state.ended {
-        if read.failed() {
+        if state.read.failed() {
             return window::BROKEN;
         }
         return window::AGAINST;
     }
-    if last.failed() {
+    if state.audit.read.failed() {
         return window::BROKEN;
     }
     if written.failed() {
         return window::BROKEN;
     }
-    let verdict = audit.verdict;
-    match verdict {
+    match state.audit.verdict {
         Verdict::Passes => window::DONE,
-        Verdict::Faulty { reason: _, row: _ } => window::AGAINST,
+        Verdict::Faulty { .. } => window::AGAINST,
     }
 }

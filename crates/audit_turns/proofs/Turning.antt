@@ -1,4 +1,5 @@
 -- What a turn makes of the two readings.
+use Rattle.std.specs.Prelude.{Ok, Err}
 use Prim.Native.Nat.{ℕ, ◌+◌, ◌≤◌}
 use native.Mathlib.Omega.{arith}
 use mathlib.Core.Path.{◌≡◌, refl, sym, ap, ◌∙◌, subst}
@@ -21,8 +22,7 @@ use Rattle.session.specs.Step.{Outcome}
 use Rattle.session.specs.Step.{told as toldStep}
 use Rattle.session.specs.declared.Accepted.{Accepted}
 use Rattle.session.specs.declared.Session.{Session}
-use Rattle.session.specs.declared.StepAnswer.{StepAnswer}
-use Rattle.session.specs.declared.StepAnswer.TheVariants as answer
+use Rattle.session.specs.Answers.{StepAnswer}
 use Rattle.session.proofs.Few.{Few, offer-few}
 use Rattle.source.specs.Scan.{scanned, kept_by}
 use Rattle.source.specs.declared.Taken.{Taken}
@@ -104,11 +104,11 @@ module _ (o : Outcome) (f : Few o) (l : Lent) where
 
   answered-stands : (x : StepAnswer) → toldStep x ≡ o.answer → Alike
       (handed_by x (laid o.packets l).octets (laid o.packets l).lengths) o.packets
-  answered-stands (answer.Accepted a) e =
+  answered-stands (Ok a) e =
       let fields : a ≡ o.answer.fields = ap (λ (t : Told Accepted). t.fields) e in
       stands a.packets a.arrival (ap (λ (b : Accepted). b.packets) fields ∙ f.count)
       (subst (λ (n : ℕ). Under n o.packets) (sym (ap (λ (b : Accepted). b.arrival) fields)) f.under)
-  answered-stands (answer.Refused r) e =
+  answered-stands (Err r) e =
       let z : 0 ≡ o.answer.fields.packets = ap (λ (t : Told Accepted). t.fields.packets) e in
       subst (λ (ps : List Handed). Alike [] ps) (sym (none_at_all o.packets (sym (z ∙ f.count)))) tt
 

@@ -37,14 +37,11 @@ impl State {
     pub fn fresh(receiver: Receiver, check: Check) -> State
         ensures { result ≡ begun receiver check }
     {
-        let feed = Feed::fresh();
-        let audit = Audit::fresh(check);
-        let read = Refilled::none();
         State {
-            feed,
+            feed: Feed::fresh(),
             receiver,
-            audit,
-            read,
+            audit: Audit::fresh(check),
+            read: Refilled::none(),
             going: true,
             ended: false,
         }
@@ -69,21 +66,22 @@ impl State {
             kept.new
             (lent octets.new lengths.new firsts.new) rows.new }
     {
-        let before = self.feed;
-        let last = self.receiver;
-        let audit = self.audit;
-        let pulled = before.pull(name, source, input, last, kept, octets, lengths, firsts);
-        let pull = pulled.pull;
-        let feed = pulled.feed;
-        let receiver = pulled.receiver;
-        let read = pulled.read;
-        let heeded = heed(name, table, rows, audit, pull, octets, lengths);
-        let next = heeded.audit;
+        let pulled = self.feed.pull(
+            name,
+            source,
+            input,
+            self.receiver,
+            kept,
+            octets,
+            lengths,
+            firsts,
+        );
+        let heeded = heed(name, table, rows, self.audit, pulled.pull, octets, lengths);
         State {
-            feed,
-            receiver,
-            audit: next,
-            read,
+            feed: pulled.feed,
+            receiver: pulled.receiver,
+            audit: heeded.audit,
+            read: pulled.read,
             going: heeded.going,
             ended: heeded.ended,
         }

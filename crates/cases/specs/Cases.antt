@@ -1,11 +1,10 @@
 -- Document 01, 'Both sides of the line': the twelve marked cases, each a row of what the definition gives and what the paper says.
-use Rattle.std.specs.Prelude.{ℕ, ◌≡◌, Bool, true, false, List, [], ◌∷◌, ◌++◌, map, replicate}
+use Rattle.std.specs.Prelude.{ℕ, ◌≡◌, Bool, true, false, List, [], ◌∷◌, ◌++◌, map, replicate, Some}
 use Rattle.std.proofs.Math.Option.{some}
 use Rattle.octets.specs.Numbers.{at}
 use Rattle.answer.specs.Told.{Told, accept}
 use Rattle.crc.specs.Check.{packet_check}
-use Rattle.counts.specs.declared.Loss.{Loss}
-use Rattle.counts.specs.declared.Loss.TheVariants.{Known}
+use Rattle.counts.specs.Loss.{Loss}
 use Rattle.counts.specs.Lost.{lost_since}
 use Rattle.frame.specs.Address.{address_octets}
 use Rattle.frame.specs.Frame.{status_wrong}
@@ -64,9 +63,9 @@ table =
     -- t = 5, status 0xC0 right, 0xB0 wrong
     ∷ row (wrong (status_wrong 5 0xc0) (status_wrong 5 0xb0)) (wrong false true)
     -- channel count 255 then 0, lost 0
-    ∷ row (lost (lost_since (some 255) 0)) (lost (Known 0))
+    ∷ row (lost (lost_since (some 255) 0)) (lost (Some 0))
     -- 254 then 1, lost 2
-    ∷ row (lost (lost_since (some 254) 1)) (lost (Known 2))
+    ∷ row (lost (lost_since (some 254) 1)) (lost (Some 2))
     -- sequence 16,383 then 0, missing 0
     ∷ row (answer (after_first 16383 0)) (answer (accept (missing 0)))
     -- 5 then 9, missing 3

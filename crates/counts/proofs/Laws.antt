@@ -1,7 +1,6 @@
 -- The laws of a gap, once over the modulus.
 use Rattle.std.proofs.Common.{◌≡◌, ℕ, ◌+◌, ◌-◌, ◌%◌, ◌<◌, sym, ap, ◌∙◌, add_assoc, mod-lt, mod-eq_of_lt, arith}
-use native.Mathlib.Nat.{mod-mod, mod-add-mod, add-mod-mod, add-mod_right, mod-mod_of_dvd}
-use native.Mathlib.Nat.{dvd_of_mod-eq-zero, mod_self}
+use native.Mathlib.Nat.{mod-mod, mod-add-mod, add-mod-mod, add-mod_right}
 use Rattle.counts.specs.Gap.{gap, GapLeads, GapAlone, GapOn}
 
 -- going on by x and by what x lacks to m comes back
@@ -49,27 +48,3 @@ gap-on m last k low high =
     sym
     (gap-alone m ((last + k) % m) last (k - 1) (omega arith)
     (record { below = omega arith; leads = ap (λ (n : ℕ). n % m) sum ∙ sym (mod-mod (last + k) m) }))
-
--- the law of the three counters: two subtractions that wrap at a multiple w of m leave the gap, modulo m
-pub wrapped : (m w count last d g : ℕ) → 0 < m → w % m ≡ 0 → (d + last) % w ≡ count → (g + 1) % w ≡ d → g % m ≡ gap m count last
-wrapped m w count last d g h v p q =
-    gap-alone m count last (g % m) h
-    (record {
-      below = mod-lt g h;
-      leads =
-          add-mod-mod (last + 1) g m
-          ∙ ap (λ (n : ℕ). n % m) turn
-          ∙ sym (mod-add-mod (g + 1) m last)
-          ∙ ap (λ (n : ℕ). (n + last) % m) (sym (mod-mod_of_dvd m (g + 1) (dvd_of_mod-eq-zero m v)) ∙ ap (λ (n : ℕ). n % m) q)
-          ∙ mod-add-mod d m last
-          ∙ sym (mod-mod_of_dvd m (d + last) (dvd_of_mod-eq-zero m v))
-          ∙ ap (λ (n : ℕ). n % m) p;
-    })
-  where
-    turn : last + 1 + g ≡ g + 1 + last
-    turn = omega arith
-
--- the same at the full width, where nothing is left to take away
-pub wrapped_full : (m count last d g : ℕ) → g < m → (d + last) % m ≡ count → (g + 1) % m ≡ d → g ≡ gap m count last
-wrapped_full m count last d g l p q =
-    sym (mod-eq_of_lt l) ∙ wrapped m m count last d g (omega arith) (mod_self m) p q

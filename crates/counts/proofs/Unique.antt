@@ -5,8 +5,6 @@ use Rattle.counts.proofs.MasterCount.lost.Kinds as kmaster
 use Rattle.counts.proofs.MasterCount.lost.Reads as rmaster
 use Rattle.counts.proofs.ChannelCount.lost.Kinds as kchannel
 use Rattle.counts.proofs.ChannelCount.lost.Reads as rchannel
-use Rattle.counts.proofs.Loss.number.Kinds as knumber
-use Rattle.counts.proofs.Loss.number.Reads as rnumber
 use Rattle.counts.proofs.SequenceCount.missing.Kinds as ksequence
 use Rattle.counts.proofs.SequenceCount.missing.Reads as rsequence
 
@@ -18,6 +16,3 @@ channel_fixed = fixed kchannel.ps kchannel.r rchannel.Post _ _ (λ κs a x s p. 
 
 pub sequence_fixed : Fixes ksequence.ps ksequence.r rsequence.Post (λ κs x s. x)
 sequence_fixed = fixed ksequence.ps ksequence.r rsequence.Post _ _ (λ κs a x s p. p)
-
-pub number_fixed : Fixes knumber.ps knumber.r rnumber.Post (λ κs x s. x)
-number_fixed = fixed knumber.ps knumber.r rnumber.Post _ _ (λ κs a x s p. p)

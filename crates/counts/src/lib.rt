@@ -3,7 +3,7 @@
 
 ghost use Rattle.std.specs.Prelude.{◌≡◌};
 ghost use Rattle.counts.specs.Gap.{gap};
-ghost use Rattle.counts.specs.Lost.{last_of, lost_since, number};
+ghost use Rattle.counts.specs.Lost.{last_of, lost_since};
 
 // The master frame count, over all channels.
 #[derive(Clone, Copy)]
@@ -17,45 +17,23 @@ pub struct ChannelCount(pub u8);
 #[derive(Clone, Copy)]
 pub struct SequenceCount(pub u16);
 
-// How many frames were lost; unknown where there is no last count to compare with.
-#[derive(Clone, Copy)]
-pub enum Loss {
-    Unknown,
-    Known(u8),
-}
-
 // (count - last - 1) modulo 256, by subtraction that wraps.
 fn gap(count: u8, last: u8) -> u8
     ensures { result ≡ gap 256 count last }
 {
-    std::num::wrapping_sub_u8(std::num::wrapping_sub_u8(count, last), 1)
+    count.wrapping_sub(last).wrapping_sub(1)
 }
 
-// How many frames were lost between the last one, if one was heard, and the one with this count.
-fn lost(heard: bool, last: u8, count: u8) -> Loss
+// How many frames were lost between the last one, if one was heard, and the one with this count; none if there is no last one to compare with.
+fn lost(heard: bool, last: u8, count: u8) -> Option<u8>
     ensures { result ≡ lost_since (last_of heard last) count }
 {
-    if heard {
-        return Loss::Known(gap(count, last));
-    }
-    Loss::Unknown
-}
-
-impl Loss {
-    // The number that the rules go on with: unknown is taken as 0.
-    pub fn number(self) -> u8
-        ensures { result ≡ number self }
-    {
-        match self {
-            Loss::Unknown => 0,
-            Loss::Known(n) => n,
-        }
-    }
+    heard.then_some(gap(count, last))
 }
 
 impl MasterCount {
     // How many frames of all channels were lost before this one, after the last if one was heard.
-    pub fn lost(self, heard: bool, last: MasterCount) -> Loss
+    pub fn lost(self, heard: bool, last: MasterCount) -> Option<u8>
         ensures { result ≡ lost_since (last_of heard last.0) self.0 }
     {
         lost(heard, last.0, self.0)
@@ -64,7 +42,7 @@ impl MasterCount {
 
 impl ChannelCount {
     // How many of the channel's frames were lost before this one, after the last if one was heard.
-    pub fn lost(self, heard: bool, last: ChannelCount) -> Loss
+    pub fn lost(self, heard: bool, last: ChannelCount) -> Option<u8>
         ensures { result ≡ lost_since (last_of heard last.0) self.0 }
     {
         lost(heard, last.0, self.0)
@@ -76,6 +54,6 @@ impl SequenceCount {
     pub fn missing(self, last: SequenceCount) -> u16
         ensures { result ≡ gap 16384 self.0 last.0 }
     {
-        std::num::wrapping_sub_u16(std::num::wrapping_sub_u16(self.0, last.0), 1) % 16384
+        self.0.wrapping_sub(last.0).wrapping_sub(1) % 16384
     }
 }

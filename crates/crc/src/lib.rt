@@ -21,12 +21,10 @@ pub fn packet_check(octets: &[u8]) -> u16
 {
     let table = HIGH;
     let mut crc = START;
-    let mut i = 0;
-    while i < octets.len() {
-        let high = crc ^ ((octets[i] as u16) << 8);
+    for x in octets {
+        let high = crc ^ ((*x as u16) << 8);
         let low = table[(high / 4096) as usize] ^ (high << 4);
         crc = table[(low / 4096) as usize] ^ (low << 4);
-        i += 1;
     }
     crc
 }
@@ -83,10 +81,8 @@ fn low_eights(octets: &[u8]) -> u16
         return START;
     }
     let mut s = (START as u64) ^ low_joined(octets, 0);
-    let mut i = 8;
-    while 8 <= octets.len() - i {
-        s = low_zeros(s) ^ low_joined(octets, i);
-        i += 8;
+    for k in 1..octets.len() / 8 {
+        s = low_zeros(s) ^ low_joined(octets, 8 * k);
     }
     low_bits(s)
 }
@@ -96,10 +92,8 @@ pub fn frame_check(octets: &[u8]) -> u16
     ensures { result ≡ frame_check octets.now }
 {
     let mut crc = low_eights(octets);
-    let mut i = octets.len() / 8 * 8;
-    while i < octets.len() {
-        crc = low_octet(crc, octets[i]);
-        i += 1;
+    for x in &octets[octets.len() / 8 * 8..] {
+        crc = low_octet(crc, *x);
     }
     crc ^ 0xffff
 }

@@ -2,8 +2,8 @@
 #![tactic(auto)]
 
 use format_cases::{frames, packets};
-use frame::{Frame, FrameRead};
-use packet::{Packet, PacketRead};
+use frame::Frame;
+use packet::Packet;
 use records::{input, places, text};
 
 // Whether the case is of a frame; else of a packet.
@@ -11,27 +11,13 @@ fn of_frame(c: &[u8]) -> bool {
     input::octet(c, places::FRAME) == 1
 }
 
-// Whether the packet reader accepts octets, and the frame reader.
-fn packet_accepted(octets: &[u8]) -> bool {
-    match Packet::read(octets) {
-        PacketRead::Packet(_) => true,
-        PacketRead::Refused(_) => false,
-    }
-}
-
-fn frame_accepted(t: u8, octets: &[u8]) -> bool {
-    match Frame::read(t, octets) {
-        FrameRead::Frame(_) => true,
-        FrameRead::Refused(_) => false,
-    }
-}
-
 // Prints whether the octets are accepted as they were.
 fn before(c: &[u8], octets: &[u8]) {
-    let mut accepted = packet_accepted(octets);
-    if of_frame(c) {
-        accepted = frame_accepted(input::octet(c, places::T), octets);
-    }
+    let accepted = if of_frame(c) {
+        Frame::read(input::octet(c, places::T), octets).is_ok()
+    } else {
+        Packet::read(octets).is_ok()
+    };
     if accepted {
         text::say(b"accepted");
     } else {
@@ -63,16 +49,14 @@ fn alone(low_first: bool, k: u32) -> u8 {
 fn change(octets: &mut [u8], bit: u32, low_first: bool) {
     let at = (bit / 8) as usize;
     if at < octets.len() {
-        octets[at] = octets[at] ^ alone(low_first, bit);
+        octets[at] ^= alone(low_first, bit);
     }
 }
 
 // Changes each bit of a list of their numbers, four octets each.
 fn change_all(octets: &mut [u8], bits: &[u8], low_first: bool) {
-    let mut at: usize = 0;
-    while at < bits.len() {
-        change(octets, input::four(octets::part(bits, at, 4), 0), low_first);
-        at += 4;
+    for bit in bits.chunks(4) {
+        change(octets, input::four(bit, 0), low_first);
     }
 }
 

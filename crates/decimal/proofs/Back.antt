@@ -1,4 +1,5 @@
 -- What is written as decimal text reads back, and what is read is what is written.
+use Rattle.std.specs.Prelude.{Some, None}
 use Prim.Native.Nat.{ℕ, zero, suc, ◌+◌, ◌-◌, ◌*◌, ◌/◌, ◌%◌, ◌^◌, ◌≤◌, ◌<◌}
 use native.Mathlib.Omega.{arith}
 use native.Mathlib.Nat.{add-zero, pow-suc, pow-le-pow_right, mul-le-mul_right}
@@ -9,15 +10,13 @@ use lib.ListN.{length, drop}
 use lib.Seq.{drop-append_seam, drop-append-add, drop-drop}
 use lib.Dec.{eqb, ltb}
 use borrow.Author.Tests.{le-ltb, lt-ltb, ne_eqb, eq-eqb, ltb-false, ltb-true, eqb-false, eqb-true, not-false}
-use Rattle.octets.specs.Numbers.{at}
 use Rattle.octets.specs.Pick.{pick}
 use Rattle.octets.proofs.Choices.{picks, picked, passed}
 use Rattle.octets.proofs.Tests.{or_left, or_right}
 use Rattle.decimal.specs.Text.{decimal_below, decimal, value_after, each}
 use Rattle.decimal.specs.Read.{largest, no_digit, digits_of, number_of, ill_written, ends_otherwise, number_wrong, read_at, behind}
 use Rattle.decimal.specs.Read.{numbers_of, numbers_wrong, ReadsBack, WritesBack, NumbersReadBack, NumbersWriteBack}
-use Rattle.decimal.specs.declared.NumberRead.{NumberRead}
-use Rattle.decimal.specs.declared.NumberRead.TheVariants.{Read, Wrong}
+use Rattle.decimal.specs.Answers.{NumberRead}
 use Rattle.decimal.proofs.Decimal.{decimal-shows}
 use Rattle.decimal.proofs.Several.{read_at_lem}
 
@@ -117,11 +116,11 @@ unfolding read_at
 reads-back before text n after small other =
     let given : List ℕ = decimal n ++ (after ∷ text) in
     let e : drop (length before) (before ++ given) ≡ given = drop-append_seam before given in
-    let read : List ℕ → NumberRead = λ s. pick (number_wrong after s) Wrong (Read (number_of s) (length before + length (digits_of s) + 1)) in
+    let read : List ℕ → NumberRead = λ s. pick (number_wrong after s) None (Some (number_of s, length before + length (digits_of s) + 1)) in
     ap read e
     ∙ sym (passed _ _ _ _ (right n after text small other)
-    (ap (λ (m : ℕ). Read m (length before + length (decimal n) + 1)) (sym (its_number n after text small other))
-    ∙ ap (λ (ds : List ℕ). Read (number_of given) (length before + length ds + 1)) (sym (its_digits n after text small other))))
+    (ap (λ (m : ℕ). Some (m, length before + length (decimal n) + 1)) (sym (its_number n after text small other))
+    ∙ ap (λ (ds : List ℕ). Some (number_of given, length before + length ds + 1)) (sym (its_digits n after text small other))))
 
 pub numbers-read-back : NumbersReadBack
 unfolding numbers_of numbers_wrong

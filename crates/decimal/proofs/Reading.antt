@@ -1,4 +1,5 @@
 -- Laws of reading a number: what its loop has found at each turn, and its ends.
+use Rattle.std.specs.Prelude.{Some, None}
 use Prim.Native.Nat.{ℕ, suc, ◌+◌, ◌-◌, ◌*◌, ◌≤◌, ◌<◌}
 use native.Mathlib.Omega.{arith}
 use native.Mathlib.Nat.{add-zero}
@@ -15,7 +16,6 @@ use Rattle.octets.specs.Pick.{pick}
 use Rattle.octets.proofs.Choices.{picked, passed}
 use Rattle.decimal.specs.Text.{value_after}
 use Rattle.decimal.specs.Read.{largest, no_digit, digits_of, number_of, ill_written, ends_otherwise, number_wrong, read_at}
-use Rattle.decimal.specs.declared.NumberRead.TheVariants.{Read, Wrong}
 
 or_second : (a : Bool) {b : Bool} → b ≡ true → (a || b) ≡ true
 or_second true h = refl
@@ -96,7 +96,7 @@ module _ (text : List ℕ) (from n end : ℕ) (r : Reading text from n end) (ins
     behind = omega (arith, r.behind);
   }
 
-  pub too_large : (after : ℕ) → no_digit (at text end) ≡ false → largest < next → Wrong ≡ read_at text from after
+  pub too_large : (after : ℕ) → no_digit (at text end) ≡ false → largest < next → None ≡ read_at text from after
   unfolding read_at
   too_large after h l =
       let big : largest < number_of (drop from text) = omega (arith, value_on h, grows next (digits_of (drop (end + 1) text))) in
@@ -135,21 +135,21 @@ module _ (text : List ℕ) (from n end : ℕ) (r : Reading text from n end) (ins
 
     pub number-wrong : (after : ℕ) → ((eqb (end - from) 0 || (eqb (at text from) 48 && ltb 1 (end - from))) || not
         (eqb (at text end) after)) ≡ true
-        → Wrong ≡ read_at text from after
+        → None ≡ read_at text from after
     unfolding read_at
     number-wrong after h = picked _ _ _ (settled after ∙ h)
 
     pub number_read : (after : ℕ) → ((eqb (end - from) 0 || (eqb (at text from) 48 && ltb 1 (end - from))) || not (eqb (at text end) after))
         ≡ false
-        → Read n (end + 1) ≡ read_at text from after
+        → Some (n, end + 1) ≡ read_at text from after
     unfolding read_at
     number_read after h =
         let k : from + length (digits_of (drop from text)) ≡ end = omega (arith, many, r.behind) in
         passed _ _ _ _ (settled after ∙ h)
-        (ap (λ (m : ℕ). Read m (end + 1)) (sym shows) ∙ ap (λ (m : ℕ). Read (number_of (drop from text)) (m + 1)) (sym k))
+        (ap (λ (m : ℕ). Some (m, end + 1)) (sym shows) ∙ ap (λ (m : ℕ). Some (number_of (drop from text), m + 1)) (sym k))
 
 -- no octet more
-pub text-ended : (text : List ℕ) (from n end after : ℕ) → Reading text from n end → length text ≤ end → Wrong ≡ read_at text from after
+pub text-ended : (text : List ℕ) (from n end after : ℕ) → Reading text from n end → length text ≤ end → None ≡ read_at text from after
 unfolding read_at
 text-ended text from n end after r h =
     let none : drop end text ≡ [] = drop_of_length-le text h in

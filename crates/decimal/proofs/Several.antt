@@ -1,4 +1,5 @@
 -- Laws by which numbers are read one behind another.
+use Rattle.std.specs.Prelude.{Some, None}
 use Prim.Native.Nat.{ℕ, zero, suc, ◌+◌}
 use native.Mathlib.Omega.{arith}
 use native.Mathlib.Nat.{add_assoc}
@@ -11,8 +12,8 @@ use lib.Dec.{ltb}
 use borrow.Author.Tests.{ltb-true, ltb-false}
 use Rattle.octets.specs.Pick.{pick}
 use Rattle.octets.proofs.Choices.{not_picked}
+use Rattle.decimal.specs.Answers.{NumberRead}
 use Rattle.decimal.specs.Read.{digits_of, number_of, number_wrong, read_at, behind, numbers_of, numbers_wrong}
-use Rattle.decimal.specs.declared.NumberRead.TheVariants.{Read, Wrong}
 
 -- a text starts with this number, and rest stands behind the octet that ends it
 pub record Starts (after : ℕ) (text : List ℕ) (n : ℕ) (behind' : List ℕ) : Type 0 where
@@ -25,27 +26,28 @@ module _ (text : List ℕ) (from after : ℕ) where
   here = drop from text
 
   -- what a call answered
-  pub read_at_lem : (n next : ℕ) → read_at text from after ≡ Read n next → Starts after here n (drop next text)
+  pub read_at_lem : (n next : ℕ) → read_at text from after ≡ Some (n, next) → Starts after here n (drop next text)
   unfolding read_at
   read_at_lem n next h =
       let k = not_picked (number_wrong after here) _ _ _ h (λ e. wrong-read e) in
-      let e : Read (number_of here) (from + length (digits_of here) + 1) ≡ Read n next = k.1 in
-      let end : from + length (digits_of here) + 1 ≡ next = cc in
+      let e : ◌≡◌ {A = NumberRead} (Some (number_of here, from + length (digits_of here) + 1)) (Some (n, next)) = k.1 in
+      let both : ◌≡◌ {A = ℕ × ℕ} (number_of here, from + length (digits_of here) + 1) (n, next) = cc in
+      let end : from + length (digits_of here) + 1 ≡ next = ap (λ (p : ℕ × ℕ). p.1) both in
       record {
         right = k.0;
-        number = cc;
+        number = ap (λ (p : ℕ × ℕ). p.0) both;
         rest = drop-drop (length (digits_of here) + 1) from text ∙ ap (λ (i : ℕ). drop i text)
             (sym (add_assoc from (length (digits_of here)) 1) ∙ end);
       }
     where
-      wrong-read : {m j : ℕ} → Wrong ≡ Read m j → ⊥
+      wrong-read : {m j : ℕ} → ◌≡◌ {A = NumberRead} None (Some (m, j)) → ⊥
       wrong-read e = let z : ◌≡◌ {A = ℕ} 0 1 = cc in omega arith
 
-  pub wrong-at : read_at text from after ≡ Wrong → number_wrong after here ≡ true
+  pub wrong-at : read_at text from after ≡ None → number_wrong after here ≡ true
   unfolding read_at pick
   wrong-at h = by (number_wrong after here) refl h
     where
-      by : (b : Bool) → number_wrong after here ≡ b → pick b Wrong (Read (number_of here) (from + length (digits_of here) + 1)) ≡ Wrong
+      by : (b : Bool) → number_wrong after here ≡ b → pick {A = NumberRead} b None (Some (number_of here, from + length (digits_of here) + 1)) ≡ None
           → number_wrong after here ≡ true
       by true e k = e
       by false e k = let z : ◌≡◌ {A = ℕ} 0 1 = cc in absurd (omega arith)

@@ -1,10 +1,9 @@
 -- Decimal text that is read: no leading zero, and no number above the largest.
-use Rattle.std.specs.Prelude.{ℕ, zero, suc, ◌+◌, ◌-◌, ◌^◌, ◌≤◌, ◌≡◌, Bool, true, false, not, ◌||◌, List, [], ◌∷◌, ◌++◌, length, drop, eqb, ltb}
+use Rattle.std.specs.Prelude.{ℕ, zero, suc, ◌+◌, ◌-◌, ◌^◌, ◌≤◌, ◌≡◌, Bool, true, false, not, ◌||◌, List, [], ◌∷◌, ◌++◌, length, drop, eqb, ltb, Some, None}
 use Rattle.octets.specs.Numbers.{at}
 use Rattle.octets.specs.Pick.{pick}
 use Rattle.decimal.specs.Text.{decimal, value_after, each}
-use Rattle.decimal.specs.declared.NumberRead.{NumberRead}
-use Rattle.decimal.specs.declared.NumberRead.TheVariants.{Read, Wrong}
+use Rattle.decimal.specs.Answers.{NumberRead}
 
 -- The largest number of 32 bits.
 abbrev pub largest : ℕ
@@ -38,11 +37,11 @@ unfoldable pub number_wrong : ℕ → List ℕ → Bool
 number_wrong after text =
     ill_written (digits_of text) || (ltb largest (number_of text) || ends_otherwise after (drop (length (digits_of text)) text))
 
--- What `read` answers: the number at index at and the index behind the octet that ends it, or Wrong.
+-- What `read` answers: the number at index at and the index behind the octet that ends it; none where none is written there.
 unfoldable pub read_at : List ℕ → ℕ → ℕ → NumberRead
 read_at text at after =
     let here = drop at text in
-    pick (number_wrong after here) Wrong (Read (number_of here) (at + length (digits_of here) + 1))
+    pick (number_wrong after here) None (Some (number_of here, at + length (digits_of here) + 1))
 
 -- What stands behind a number and the octet that ends it.
 abbrev pub behind : List ℕ → List ℕ
@@ -67,12 +66,12 @@ Of32Bits n = n ≤ 2 ^ 32 - 1
 abbrev pub ReadsBack : Type 0
 ReadsBack =
     (before text : List ℕ) (n after : ℕ) → Of32Bits n → no_digit after ≡ true
-    → read_at (before ++ (decimal n ++ (after ∷ text))) (length before) after ≡ Read n (length before + length (decimal n) + 1)
+    → read_at (before ++ (decimal n ++ (after ∷ text))) (length before) after ≡ Some (n, length before + length (decimal n) + 1)
 
 -- What is read as a number is what is written for it.
 abbrev pub WritesBack : Type 0
 WritesBack =
-    (text : List ℕ) (at after n next : ℕ) → read_at text at after ≡ Read n next
+    (text : List ℕ) (at after n next : ℕ) → read_at text at after ≡ Some (n, next)
     → Of32Bits n × (drop at text ≡ decimal n ++ (after ∷ drop next text))
 
 -- The same of a whole text of numbers.

@@ -13,13 +13,6 @@ pub const NUMBER: usize = 11;
 // The largest number that is read.
 pub const LARGEST: u64 = 4294967295;
 
-// What reading a number answers: the number and the index behind the octet that ends it, or that none is written there.
-#[derive(Clone, Copy)]
-pub enum NumberRead {
-    Read(u32, usize),
-    Wrong,
-}
-
 // Puts n's decimal digits and the character after them into out from index at on, and answers the index behind them.
 // With less than NUMBER octets there out stays, and the answer is at.
 pub fn number(out: &mut [u8], at: usize, n: u32, after: u8) -> usize
@@ -47,37 +40,33 @@ pub fn numbers(out: &mut [u8], at: usize, list: &[u32], after: u8) -> usize
         return at;
     }
     let mut next = at;
-    let mut i = 0;
-    while i < list.len() {
-        next = lay(out, next, list[i], after);
-        i += 1;
+    for n in list {
+        next = lay(out, next, *n, after);
     }
     next
 }
 
 // Reads the number that stands at index at of text and is ended by the octet after.
-// Wrong if there is no digit, a leading zero, a number above LARGEST, or another octet behind the digits.
-pub fn read(text: &[u8], at: usize, after: u8) -> NumberRead
+// The answer is the number and the index behind the octet that ends it; none if there is no digit, a leading zero, a number above LARGEST, or another octet behind the digits.
+pub fn read(text: &[u8], at: usize, after: u8) -> Option<(u32, usize)>
     ensures { result ≡ read_at text.now at after }
 {
     let mut n: u64 = 0;
-    let mut end = at;
-    while end < text.len() {
+    for end in at..text.len() {
         let c = text[end];
         if (c < b'0') | (b'9' < c) {
             let digits = end - at;
             if (digits == 0) | ((text[at] == b'0') & (1 < digits)) | (c != after) {
-                return NumberRead::Wrong;
+                return None;
             }
-            return NumberRead::Read(n as u32, end + 1);
+            return Some((n as u32, end + 1));
         }
-        n = n * 10 + (c - b'0') as u64;
+        n = n * 10 + u64::from(c - b'0');
         if LARGEST < n {
-            return NumberRead::Wrong;
+            return None;
         }
-        end += 1;
     }
-    NumberRead::Wrong
+    None
 }
 
 // The same as `number`, where there is room.
@@ -97,14 +86,12 @@ fn places(n: u32) -> usize
     ensures value { result ≡ length (decimal n) }
     ensures upper_bound { result ≤ 10 }
 {
-    let mut k = 1;
     let mut bound: u64 = 10;
-    while k < 10 {
-        if (n as u64) < bound {
+    for k in 1..10 {
+        if u64::from(n) < bound {
             return k;
         }
         bound *= 10;
-        k += 1;
     }
     10
 }
@@ -115,11 +102,9 @@ fn digits(out: &mut [u8], at: usize, n: u32, k: usize)
     requires k_in_bounds { at + k ≤ length out.old }
     ensures { out.new ≡ overlay out.old at (decimal n) }
 {
-    let mut i = k;
     let mut rest = n;
-    while i > 0 {
-        i -= 1;
-        out[at + i] = 48 + (rest % 10) as u8;
+    for i in (0..k).rev() {
+        out[at + i] = b'0' + (rest % 10) as u8;
         rest /= 10;
     }
 }

@@ -78,13 +78,10 @@ fn status(stopped: Stopped) -> i32
     ensures { result ≡ status_of stopped }
 {
     let state = stopped.state;
-    let last = stopped.last;
-    if state.going | failed(state) | last.failed() {
+    if state.going | failed(state) | stopped.last.failed() {
         return window::BROKEN;
     }
-    let receiver = state.receiver;
-    let source = receiver.source;
-    if state.over | source.cut() {
+    if state.over | state.receiver.source.cut() {
         return window::AGAINST;
     }
     window::DONE
@@ -94,9 +91,7 @@ fn status(stopped: Stopped) -> i32
 fn failed(state: State) -> bool
     ensures { result ≡ failed_in state }
 {
-    let read = state.read;
-    let written = state.written;
-    read.failed() | written.failed()
+    state.read.failed() | state.written.failed()
 }
 
 // The whole run of a receiver, with an input and an output buffer, behind a first write. It ends with the input, a bad recording, or a read
@@ -125,25 +120,27 @@ fn turns(
         read,
         written: first,
     };
-    let mut made: u64 = 0;
+    let mut made = TURNS;
     let mut before = receiver.source;
     let mut from = 0;
     let mut passed: u64 = 0;
-    while state.going {
-        if made == TURNS {
-            return Stopped {
-                state,
-                made,
-                last: Written::none(),
-            };
+    for i in 0..TURNS {
+        if !state.going {
+            made = i;
+            break;
         }
-        let receiver = state.receiver;
-        before = receiver.source;
+        before = state.receiver.source;
         from = state.at;
         faults::tell_start(name, passed, before, window::hand(input, from, state.end));
         state = turn(name, source, input, kept, out, state);
         passed = std::num::wrapping_add_u64(passed, state.used as u64);
-        made += 1;
+    }
+    if state.going {
+        return Stopped {
+            state,
+            made,
+            last: Written::none(),
+        };
     }
     let last = ended(name, state, before, input, from, passed, out);
     Stopped { state, made, last }
@@ -172,8 +169,7 @@ fn ended(
         faults::tell_over(name, passed, first, window, state.used);
         return Written::none();
     }
-    let receiver = state.receiver;
-    let source = receiver.source;
+    let source = state.receiver.source;
     let last = last_line(name, source, out);
     let window = window::hand(input, state.at, state.end);
     faults::tell(name, passed, source, window);
@@ -185,9 +181,12 @@ fn ended(
 fn doubt(name: &[u8], state: State) {
     if none_accepted(state) {
         let receiver = state.receiver;
-        let source = receiver.source;
-        let session = receiver.session;
-        faults::tell_none(name, session.arrival, source, session.t);
+        faults::tell_none(
+            name,
+            receiver.session.arrival,
+            receiver.source,
+            receiver.session.t,
+        );
     }
 }
 
@@ -196,9 +195,7 @@ fn none_accepted(state: State) -> bool
     ensures { result ≡ none_accepted state }
 {
     let receiver = state.receiver;
-    let source = receiver.source;
-    let session = receiver.session;
-    !source.cut() & !session.heard & (session.arrival != 0)
+    !receiver.source.cut() & !receiver.session.heard & (receiver.session.arrival != 0)
 }
 
 // One turn: what the octets at hand tell is written, and if octets are missing more are read.
@@ -216,15 +213,12 @@ fn turn(
 {
     let at = state.at;
     let end = state.end;
-    let before = state.receiver;
-    let listed = listing::next(before, window::hand(input, at, end), kept, out);
-    let receiver = listed.receiver;
+    let listed = listing::next(state.receiver, window::hand(input, at, end), kept, out);
     let from = at + listed.used;
-    let stop = listed.stop;
     let written = emit(name, out, listed.size);
     let read = Refilled::none();
     let mut next = State {
-        receiver,
+        receiver: listed.receiver,
         at: from,
         end,
         used: listed.used,
@@ -237,7 +231,7 @@ fn turn(
         next.going = false;
         return next;
     }
-    match stop {
+    match listed.stop {
         Stop::Full => next,
         Stop::Over => {
             next.going = false;

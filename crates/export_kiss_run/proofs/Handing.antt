@@ -1,4 +1,6 @@
 -- A frame handed on: what the export of one frame leaves, and that it has room.
+use Rattle.std.specs.Prelude.{Ok, Err}
+use Rattle.std.specs.Result.{is_err}
 use Rattle.std.proofs.Common.{◌≡◌, ℕ, ◌-◌, ◌*◌, ◌≤◌, Bool, true, false, not, eqb, ltb, List, [], ◌∷◌, ◌++◌, length, drop, sym, refl, ap}
 use Rattle.std.proofs.Common.{◌∙◌, true≢false, append-nil, add-zero, arith, length-append, length-take-le, take_all, take_at, le-ltb}
 use Rattle.std.proofs.Common.{eq-eqb}
@@ -6,8 +8,9 @@ use mathlib.Core.Bool.{false≢true}
 use Rattle.octets.specs.Parts.{written}
 use Rattle.octets.specs.Pick.{pick}
 use Rattle.octets.proofs.Choices.{picks, picked, passed}
-use Rattle.answer.specs.Told.{Told, accept, refuse, refuse_at}
-use Rattle.answer.specs.declared.Refusal.{Refusal}
+use Rattle.answer.specs.Told.{Told, accept, refuse, refuse_at, number_of}
+use Rattle.answer.specs.declared.Reason.{Reason}
+use Rattle.answer.specs.declared.Reason.TheVariants.{Room, TimeLength, Arrivals, Session, FrameLength, FrameCheck, FrameDestination, FrameSource, FrameControl, FrameProtocol, FrameVersion, FrameStatus, FramePointer, StretchOctets, StretchAbandoned, Escape, TypeOctet, PacketLength, PacketCheck, PacketBits, Pair, SourceLength, Line, NotLine, ImageShort, ImageOther, LineHeld, NoArrival, ListShort, Entry, CountRange, OutputShort, FieldRange, PacketTurnedAway, DataLength, LayoutCodes, LayoutWidth, Sequences, NotHousekeeping, Greymap, LineList, UnnumberedLine}
 use Rattle.answer.specs.Refusals as no
 use Rattle.crc.specs.Check.{before}
 use Rattle.frame.specs.Limits.{longest_time}
@@ -18,11 +21,10 @@ use Rattle.rules.specs.Packets.{cut, total}
 use Rattle.lengths.specs.Lengths.{lengths_wrong}
 use Rattle.kiss.specs.Stream.{mark, data_frame, escaped_octet, escaped}
 use Rattle.kiss_writer.specs.Export.{block_of, stream_of, first_bad, room_for, exporting, told, Exports}
-use Rattle.kiss_writer.specs.declared.Exported.{Exported}
-use Rattle.kiss_writer.specs.declared.Exported.TheVariants as exported
+use Rattle.kiss_writer.specs.Answers.{Exported}
 use Rattle.window.specs.Window.{hand}
 use Rattle.export_kiss_run.specs.Written.{block_by, handed_on}
-use Rattle.export_kiss_run.specs.Turns.{Fits, HandsOn}
+use Rattle.export_kiss_run.specs.Turns.{Fits, HandsOn, refused_by}
 
 -- ---- room
 
@@ -119,7 +121,7 @@ module _ (t : ℕ) (f out : List ℕ) (fits : Fits f out) where
     answers : told r ≡ one t f
     answers = x.answers ∙ ap (λ (l : List ℕ). exporting t f l out) lengths ∙ exported-one
 
-    pub handed : {n : ℕ} → r ≡ exported.Length n → HandsOn t f (record { to = n; refusal = 0 }) out'
+    handed : {n : ℕ} → r ≡ Ok n → HandsOn t f (Ok n) out'
     unfolding handed_on
     handed {n} e =
         let a = accepted-is (read_frame t f).accepted (length (stream f)) (read_frame t f).refusal (read_frame t f).octet
@@ -146,9 +148,66 @@ module _ (t : ℕ) (f out : List ℕ) (fits : Fits f out) where
           refuses = sym (ap (λ y. y.refusal) ((read-tells t f).plain a.0));
         }
 
-    pub left_out : {q : Refusal} → r ≡ exported.Refused q → HandsOn t f (record { to = 0; refusal = q.number }) out'
+    left_out : {q : Reason} → r ≡ Err q → HandsOn t f (Err q) out'
     unfolding handed_on
     left_out {q} e =
         let a = refused-is (read_frame t f).accepted (length (stream f)) (read_frame t f).refusal (read_frame t f).octet
         (ap told (sym e) ∙ answers) in
         record { says = λ both. none both out' ∙ passed _ _ _ _ a.0 refl; refuses = a.1 }
+
+    by_answer : (q : Exported) → r ≡ q → HandsOn t f q out'
+    by_answer (Ok n) e = handed e
+    by_answer (Err q) e = left_out e
+
+    pub hands : HandsOn t f r out'
+    hands = by_answer r refl
+
+-- ---- no reason has the number 0
+
+some_number : (q : Reason) → eqb (number_of q) 0 ≡ false
+some_number Room = refl
+some_number TimeLength = refl
+some_number Arrivals = refl
+some_number Session = refl
+some_number FrameLength = refl
+some_number FrameCheck = refl
+some_number (FrameDestination n) = refl
+some_number (FrameSource n) = refl
+some_number FrameControl = refl
+some_number FrameProtocol = refl
+some_number FrameVersion = refl
+some_number FrameStatus = refl
+some_number FramePointer = refl
+some_number StretchOctets = refl
+some_number StretchAbandoned = refl
+some_number Escape = refl
+some_number TypeOctet = refl
+some_number PacketLength = refl
+some_number PacketCheck = refl
+some_number PacketBits = refl
+some_number Pair = refl
+some_number SourceLength = refl
+some_number Line = refl
+some_number NotLine = refl
+some_number ImageShort = refl
+some_number ImageOther = refl
+some_number LineHeld = refl
+some_number NoArrival = refl
+some_number ListShort = refl
+some_number Entry = refl
+some_number CountRange = refl
+some_number OutputShort = refl
+some_number FieldRange = refl
+some_number PacketTurnedAway = refl
+some_number DataLength = refl
+some_number LayoutCodes = refl
+some_number LayoutWidth = refl
+some_number Sequences = refl
+some_number NotHousekeeping = refl
+some_number Greymap = refl
+some_number LineList = refl
+some_number UnnumberedLine = refl
+
+pub refused : (r : Exported) → is_err r ≡ not (eqb (refused_by r) 0)
+refused (Ok n) = refl
+refused (Err q) = ap not (sym (some_number q))

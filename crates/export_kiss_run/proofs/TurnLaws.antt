@@ -7,8 +7,7 @@ use types.Run.{OneOf, miss}
 use denote.Enum.Declared.{tag_of}
 use borrow.Author.Tests.{not-false}
 use Rattle.octets.proofs.Tests.{or_left}
-use Rattle.recording.specs.Pieces.{found, bad}
-use Rattle.recording.specs.Reader.{passed, scanned, Told}
+use Rattle.recording.specs.Reader.{scanned, Told}
 use Rattle.recording.proofs.Scanning.{scans_find}
 use Rattle.recording.specs.declared.Reader.{Reader}
 use Rattle.recording.specs.declared.Taken.{Taken}
@@ -20,11 +19,13 @@ use Rattle.window.specs.declared.Refilled.{Refilled}
 use Rattle.window.specs.declared.Written.{Written}
 use Rattle.window.proofs.Hands.{hand-behind, take_short}
 use Rattle.export_kiss_run.specs.Written.{written_of, to_write}
-use Rattle.export_kiss_run.specs.Turns.{Leads, quiet, leads, led_to, led_by, hand_of, failed_in, Ends, Reads}
+use Rattle.export_kiss_run.specs.Turns.{Leads, end_of, quiet, leads, led_to, led_by, hand_of, failed_in, Ends, Reads}
 use Rattle.export_kiss_run.specs.Turns.{Turned}
 use Rattle.export_kiss_run.specs.declared.Led.{Led}
 use Rattle.export_kiss_run.specs.declared.State.{State}
+use Rattle.export_kiss_run.proofs.Handing.{refused}
 use Rattle.export_kiss_run.proofs.Turning.{from-there, told-bad}
+use Rattle.std.specs.Result.{is_err}
 
 -- ---- a turn
 
@@ -165,8 +166,8 @@ module _ (s : State) (input : List ℕ) {w : List ℕ} {q : Scanned} (at-hand : 
         ∙ ap (λ (y : List ℕ). leads both s.t s.frames q.taken y) again
         ∙ ap (λ (y : Scanned). leads both s.t s.frames y.taken v) f
 
-    module _ (passed : ℕ) {octets : List ℕ} (same : octets ≡ hand out l.from l.to) (o : Written) (wrote : o.size ≡ length octets)
-        {b : Bool} (eb : b ≡ o.failed) {u : Refilled} (eu : u ≡ unread)
+    module _ (passed : ℕ) {octets : List ℕ} (same : octets ≡ hand out l.from (end_of l.handed)) (o : Written) (wrote : o.size ≡ length octets)
+        {b left : Bool} (eb : b ≡ o.failed) (el : left ≡ is_err l.handed) {u : Refilled} (eu : u ≡ unread)
         (tag : OneOf (1 ∷ 2 ∷ 3 ∷ 4 ∷ 5 ∷ []) (tag_of the_type q.taken)) where
       abbrev next : State
       next = record {
@@ -176,7 +177,7 @@ module _ (s : State) (input : List ℕ) {w : List ℕ} {q : Scanned} (at-hand : 
         end = s.end;
         passed = passed;
         frames = l.frames;
-        left = s.left || not (eqb l.refusal 0);
+        left = s.left || left;
         going = l.going && not b;
         over = not l.going;
         read = u;
@@ -213,7 +214,8 @@ module _ (s : State) (input : List ℕ) {w : List ℕ} {q : Scanned} (at-hand : 
         once = λ _. eu;
         time = ap (λ (y : Leads). y.t) led_to_lem;
         counts = ap (λ (y : Leads). y.frames) led_to_lem;
-        leaves = ap (λ (y : Leads). s.left || not (eqb y.refusal 0)) led_to_lem;
+        leaves = ap (λ (y : Bool). s.left || y) (el ∙ refused l.handed)
+            ∙ ap (λ (y : Leads). s.left || not (eqb y.refusal 0)) led_to_lem;
         found = ap (λ (y : Leads). not y.going) led_to_lem;
         stays = λ h. not_going l.going (not b)
             (ap (λ (y : Leads). y.going) led_to_lem

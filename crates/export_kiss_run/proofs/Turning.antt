@@ -4,14 +4,16 @@ use Rattle.std.proofs.Common.{take, drop, set, sym, refl, ap, ◌∙◌, subst, 
 use mathlib.Core.Bool.{false≢true}
 use types.Run.{OneOf, miss}
 use denote.Enum.Declared.{tag_of}
+use Rattle.std.specs.Prelude.{Ok}
 use Rattle.octets.specs.Pick.{pick}
+use Rattle.kiss_writer.specs.Answers.{Exported}
 use Rattle.octets.specs.Parts.{part}
 use Rattle.octets.proofs.Choices.{picks}
 use Rattle.octets.proofs.Placing.{part-some}
 use Rattle.rules.specs.Packets as rules
 use Rattle.frame.specs.Frame.{read_frame}
 use Rattle.recording.specs.Sections.{longest_frame, length_at, Seen, frame_at}
-use Rattle.recording.specs.Pieces.{Found, joined, found, bad}
+use Rattle.recording.specs.Pieces.{Found, joined, found}
 use Rattle.recording.specs.Reader.{seen_at, bad_at, passed, scanned, state_of, tells_of, Told}
 use Rattle.recording.proofs.Scanning.{scans_find}
 use Rattle.recording.specs.declared.Reader.{Reader}
@@ -23,8 +25,7 @@ use Rattle.recording.specs.contracts.Taken.{the_type}
 use Rattle.kiss.specs.Stream.{mark}
 use Rattle.window.specs.Window.{hand}
 use Rattle.export_kiss_run.specs.Written.{handed_on, time_by, written_of, to_write}
-use Rattle.export_kiss_run.specs.Turns.{HandsOn, framed, leads, led_to, Sound}
-use Rattle.export_kiss_run.specs.declared.Handed.{Handed}
+use Rattle.export_kiss_run.specs.Turns.{HandsOn, end_of, refused_by, framed, leads, led_to, Sound}
 use Rattle.export_kiss_run.specs.declared.Led.{Led}
 
 -- ---- what a scan found is there
@@ -99,21 +100,21 @@ take-few (suc k) (x ∷ l) = omega (arith, take-few k l)
 
 module _ (both : Bool) (t n : ℕ) (w : List ℕ) {x : Taken} where
   pub opened : {m : ℕ} (out : List ℕ) → x ≡ taken.Opened m → Sound x w → 600 ≤ length out
-      → led_to (record { t = m % 256; frames = n; from = 0; to = 1; refusal = 0; going = true }) (set out 0 mark) ≡ leads both t n x w
+      → led_to (record { t = m % 256; frames = n; from = 0; handed = Ok 1; going = true }) (set out 0 mark) ≡ leads both t n x w
   opened {m} out e s h =
       let small : m % 256 ≡ m = let k : m ≤ 255 = subst (λ (y : Taken). Sound y w) e s in omega arith in
       ap (λ (l : List ℕ). record { t = m % 256; frames = n; said = l; refusal = 0; going = true }) (front out (omega arith))
       ∙ ap (λ (k : ℕ). record { t = k; frames = n; said = mark ∷ []; refusal = 0; going = true }) small
       ∙ ap (λ (y : Taken). leads both t n y w) (sym e)
 
-  pub handed-on : {from to : ℕ} {f out : List ℕ} {r : Handed} {k j : ℕ} → x ≡ taken.Here from to → Sound x w → f ≡ part w from (to - from)
+  pub handed-on : {from to : ℕ} {f out : List ℕ} {r : Exported} {k j : ℕ} → x ≡ taken.Here from to → Sound x w → f ≡ part w from (to - from)
       → HandsOn t f r out → k ≡ (n + 1) % 2 ^ 64 → j ≡ pick both 0 1
-      → led_to (record { t = t; frames = k; from = j; to = r.to; refusal = r.refusal; going = true }) out ≡ leads both t n x w
+      → led_to (record { t = t; frames = k; from = j; handed = r; going = true }) out ≡ leads both t n x w
   handed-on {from} {to} {f} {out} {r} {k} {j} e s p h c i =
       let sound : Sound (taken.Here from to) w = subst (λ (y : Taken). Sound y w) e s in
       let octets : f ≡ take (to - from) (drop from w) = p ∙ sym (part-some w from (to - from) (omega (arith, sound.0, sound.1))) in
-      ap (λ (y : ℕ). record { t = t; frames = k; said = hand out y r.to; refusal = r.refusal; going = true }) i
-      ∙ ap (λ (y : List ℕ). record { t = t; frames = k; said = y; refusal = r.refusal; going = true }) (h.says both)
+      ap (λ (y : ℕ). record { t = t; frames = k; said = hand out y (end_of r); refusal = refused_by r; going = true }) i
+      ∙ ap (λ (y : List ℕ). record { t = t; frames = k; said = y; refusal = refused_by r; going = true }) (h.says both)
       ∙ ap (λ (y : ℕ). record { t = t; frames = k; said = handed_on both t f; refusal = y; going = true }) h.refuses
       ∙ ap (λ (y : ℕ). record { t = t; frames = y; said = handed_on both t f; refusal = (read_frame t f).refusal; going = true }) c
       ∙ ap (framed both t n) octets
@@ -135,7 +136,7 @@ module _ (both : Bool) (t n : ℕ) (w : List ℕ) {x : Taken} where
 
 module _ (both : Bool) (t n : ℕ) (w out : List ℕ) where
   abbrev led : Bool → Led
-  led going = record { t = t; frames = n; from = 0; to = 0; refusal = 0; going = going }
+  led going = record { t = t; frames = n; from = 0; handed = Ok 0; going = going }
 
   pub nothing-more : (x : Taken) → OneOf (1 ∷ 2 ∷ []) (tag_of the_type x) → led_to (led false) out ≡ leads both t n x w
   nothing-more (taken.Missing m) k = absurd (miss (1 ∷ 2 ∷ []) 0 tt k)

@@ -1,7 +1,11 @@
 -- What a turn of the program keeps, what the whole loop makes, and the exit status of a run.
 use Rattle.std.specs.Prelude.{◌≡◌, ℕ, ◌+◌, ◌-◌, ◌%◌, ◌^◌, ◌≤◌, Bool, true, false, not, ◌&&◌, ◌||◌, List, [], ◌∷◌, ◌++◌, length, take, drop}
 use Rattle.std.specs.Prelude.{ℤ, ◌==◌, ◌≢◌}
+use Rattle.std.specs.Prelude.{Ok, Err}
+use Rattle.std.specs.Result.{result_unwrap_or}
 use Rattle.octets.specs.Pick.{pick}
+use Rattle.answer.specs.Told.{number_of}
+use Rattle.kiss_writer.specs.Answers.{Exported}
 use Rattle.source.specs.Found.{cut_at}
 use Rattle.source.specs.declared.Source.TheVariants as source
 use Rattle.frame.specs.Frame.{read_frame}
@@ -15,7 +19,6 @@ use Rattle.window.specs.Window.{hand, Refills, unread, unwritten}
 use Rattle.window.specs.Turns.{Loops}
 use Rattle.window.specs.Status.{done, against, broken}
 use Rattle.export_kiss_run.specs.Written.{handed_on, to_write, exported}
-use Rattle.export_kiss_run.specs.declared.Handed.{Handed}
 use Rattle.export_kiss_run.specs.declared.Led.{Led}
 use Rattle.export_kiss_run.specs.declared.State.{State}
 use Rattle.export_kiss_run.specs.declared.Stopped.{Stopped}
@@ -29,10 +32,18 @@ pub record Fits (f out : List ℕ) : Type 0 where
   pub short : length f ≤ 65535
   pub room : room ≤ length out
 
+-- Up to where the octets of a frame that was handed on stand, none of one that is left out; and its refusal, 0 of one that is accepted.
+abbrev pub end_of : Exported → ℕ
+end_of r = result_unwrap_or r 0
+
+abbrev pub refused_by : Exported → ℕ
+refused_by (Ok n) = 0
+refused_by (Err e) = number_of e
+
 -- A frame handed on: its block stands behind the output's first octet, and with that one it has a 0xC0 before it; and its refusal.
-pub record HandsOn (t : ℕ) (f : List ℕ) (r : Handed) (out : List ℕ) : Type 0 where
-  pub says : (both : Bool) → hand out (pick both 0 1) r.to ≡ handed_on both t f
-  pub refuses : r.refusal ≡ (read_frame t f).refusal
+pub record HandsOn (t : ℕ) (f : List ℕ) (r : Exported) (out : List ℕ) : Type 0 where
+  pub says : (both : Bool) → hand out (pick both 0 1) (end_of r) ≡ handed_on both t f
+  pub refuses : refused_by r ≡ (read_frame t f).refusal
 
 -- What a section leads to: t, how many frames have passed, the octets that are to be written, a frame's refusal, and whether the run goes
 -- on.
@@ -61,7 +72,7 @@ leads both t n (taken.Here from to) w = framed both t n (take (to - from) (drop 
 
 -- The same as the code has it, with the octets of the output that are to be written.
 abbrev pub led_to : Led → List ℕ → Leads
-led_to r out = record { t = r.t; frames = r.frames; said = hand out r.from r.to; refusal = r.refusal; going = r.going }
+led_to r out = record { t = r.t; frames = r.frames; said = hand out r.from (end_of r.handed); refusal = refused_by r.handed; going = r.going }
 
 -- What the reader found is there.
 abbrev pub Sound : Taken → List ℕ → Type 0

@@ -10,7 +10,7 @@ ghost use Rattle.octets.specs.Pick.{pick};
 ghost use Rattle.export_kiss_run.specs.Turns.{room, Fits, HandsOn, leads, led_to, Sections, Said};
 ghost use Rattle.export_kiss_run.specs.Turns.{failed_in, Reads, Turned, Looped, status_of, Ran};
 
-use kiss_writer::Exported;
+use answer::Reason;
 use recording::{Reader, Taken};
 use source::Source;
 use window::{Refilled, Written};
@@ -69,9 +69,7 @@ fn status(stopped: Stopped) -> i32
     if state.going | failed(state) {
         return window::BROKEN;
     }
-    let reader = state.reader;
-    let source = Source::Recording(reader);
-    if state.over | source.cut() | state.left {
+    if state.over | Source::Recording(state.reader).cut() | state.left {
         return window::AGAINST;
     }
     window::DONE
@@ -81,9 +79,7 @@ fn status(stopped: Stopped) -> i32
 fn failed(state: State) -> bool
     ensures { result ≡ failed_in state }
 {
-    let read = state.read;
-    let written = state.written;
-    read.failed() | written.failed()
+    state.read.failed() | state.written.failed()
 }
 
 // The whole run. It ends with the input, a bad recording, or a read or write that failed; after 2^64 - 1 turns it would end too.
@@ -112,15 +108,13 @@ fn turns(
         read,
         written,
     };
-    let mut made: u64 = 0;
-    while state.going {
-        if made == TURNS {
+    for made in 0..TURNS {
+        if !state.going {
             return Stopped { state, made };
         }
         state = turn(name, source, both, input, out, state);
-        made += 1;
     }
-    Stopped { state, made }
+    Stopped { state, made: TURNS }
 }
 
 // Says a line on standard error, behind the program's name.
@@ -156,37 +150,24 @@ fn first(both: bool) -> usize
     1
 }
 
-// A frame handed on: its block is the output's octets from index 1 up to an index, behind the 0xC0 that stands already; and its refusal.
-#[derive(Clone, Copy)]
-struct Handed {
-    to: usize,
-    refusal: u16,
-}
-
-// Leaves one frame's block in the output, or tells its refusal.
-fn hand_on(t: u8, frame: &[u8], out: &mut [u8]) -> Handed
+// Leaves one frame's block in the output and answers the index behind it, or why the frame is left out: the block begins at index 1, behind a
+// 0xC0.
+fn hand_on(t: u8, frame: &[u8], out: &mut [u8]) -> Result<usize, Reason>
     requires { Fits frame.now out.old }
     ensures { HandsOn t frame.now result out.new }
 {
     let lengths = [(frame.len() % 65536) as u16];
-    match kiss_writer::write(t, frame, &lengths, out) {
-        Exported::Length(n) => Handed { to: n, refusal: 0 },
-        Exported::Refused(refusal) => Handed {
-            to: 0,
-            refusal: refusal.number,
-        },
-    }
+    kiss_writer::write(t, frame, &lengths, out)
 }
 
-// What a section leads to: t, how many frames have passed, the output's octets from an index up to another, which are to be written, a
-// frame's refusal or 0, and whether the run goes on.
+// What a section leads to: t, how many frames have passed, the output's octets from an index up to another, which are to be written, or why a
+// frame is left out, and whether the run goes on.
 #[derive(Clone, Copy)]
 struct Led {
     t: u8,
     frames: u64,
     from: usize,
-    to: usize,
-    refusal: u16,
+    handed: Result<usize, Reason>,
     going: bool,
 }
 
@@ -199,23 +180,20 @@ fn section(both: bool, taken: Taken, t: u8, frames: u64, hand: &[u8], out: &mut 
         t,
         frames,
         from: 0,
-        to: 0,
-        refusal: 0,
+        handed: Ok(0),
         going: true,
     };
     match taken {
         Taken::Opened(n) => {
             out[0] = kiss::MARK;
             led.t = (n % 256) as u8;
-            led.to = 1;
+            led.handed = Ok(1);
         }
         Taken::Here(from, to) => {
             let n = to - from;
-            let handed = hand_on(t, octets::part(hand, from, n), out);
+            led.handed = hand_on(t, octets::part(hand, from, n), out);
             led.frames = std::num::wrapping_add_u64(frames, 1);
             led.from = first(both);
-            led.to = handed.to;
-            led.refusal = handed.refusal;
         }
         Taken::Bad | Taken::Over => {
             led.going = false;
@@ -263,21 +241,21 @@ fn turn(
         window::hand(input, at, end),
         out,
     );
-    if led.refusal != 0 {
-        left_out(name, led.frames, led.refusal);
+    if let Err(reason) = led.handed {
+        left_out(name, led.frames, reason.number());
     }
-    let written = emit(name, window::hand(out, led.from, led.to));
+    let to = led.handed.unwrap_or(0);
+    let written = emit(name, window::hand(out, led.from, to));
     let well = !written.failed();
     let read = Refilled::none();
-    let behind = scanned.reader;
     State {
-        reader: behind,
+        reader: scanned.reader,
         t: led.t,
         at: from,
         end,
         passed,
         frames: led.frames,
-        left: state.left | (led.refusal != 0),
+        left: state.left | led.handed.is_err(),
         going: led.going & well,
         over: !led.going,
         read,
@@ -289,19 +267,15 @@ fn turn(
 fn more(name: &[u8], source: &window::Source, input: &mut [u8], state: State) -> State
     ensures { Reads state input.old result input.new }
 {
-    let at = state.at;
-    let end = state.end;
-    let read = window::refill(name, source, input, at, end);
+    let read = window::refill(name, source, input, state.at, state.end);
     let have = read.have();
     let came = read.came();
     let well = !read.failed();
-    let reader = state.reader;
-    let passed = state.passed;
     if well & (came == 0) {
         faults::tell(
             name,
-            passed,
-            Source::Recording(reader),
+            state.passed,
+            Source::Recording(state.reader),
             window::hand(input, 0, have),
         );
     }

@@ -32,14 +32,7 @@ enum Why {
 fn whole(taken: Taken) -> bool
     ensures { result ≡ goes_on taken }
 {
-    match taken {
-        Taken::Missing(_) => false,
-        Taken::Bad => false,
-        Taken::Over => false,
-        Taken::Opened(_) => true,
-        Taken::Nothing => true,
-        Taken::Here(_, _) => true,
-    }
+    matches!(taken, Taken::Opened(_) | Taken::Nothing | Taken::Here(_, _))
 }
 
 // The reader of the section at which a reader that goes on from the window's start stops.
@@ -50,8 +43,7 @@ fn last(first: Reader, window: &[u8]) -> Reader
     let mut at = 0;
     while at < window.len() {
         let scanned = reader.scan(&window[at..]);
-        let taken = scanned.taken;
-        if !whole(taken) {
+        if !whole(scanned.taken) {
             return reader;
         }
         at += scanned.used;
@@ -114,15 +106,8 @@ fn before(why: Why) -> u64
     ensures { result ≡ before why }
 {
     match why {
-        Why::Nothing => 0,
-        Why::SettingsCut => 0,
-        Why::CountNotOne => 0,
         Why::TimeLong => 4,
-        Why::CountCut => 0,
-        Why::FramesMissing => 0,
-        Why::FrameLong => 0,
-        Why::FrameCut => 0,
-        Why::Behind => 0,
+        _ => 0,
     }
 }
 
@@ -199,12 +184,7 @@ pub fn tell_over(name: &[u8], octet: u64, source: Source, window: &[u8], used: u
 // The same by the recording's reader.
 fn tell_at(name: &[u8], octet: u64, reader: Reader, rest: &[u8]) {
     let why = cause(reader, rest);
-    words(
-        name,
-        std::num::wrapping_add_u64(octet, before(why)),
-        why,
-        rest,
-    );
+    words(name, octet.wrapping_add(before(why)), why, rest);
 }
 
 // Says what the first octets of a stream look like, if of another kind than the stream; nothing of a recording, and nothing once octets

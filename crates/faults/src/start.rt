@@ -19,28 +19,14 @@ pub(crate) enum Look {
 fn alone(octets: &[u8]) -> bool
     ensures { result ≡ alone octets.now }
 {
-    let mut i = 0;
-    while i < octets.len() {
-        if 1 < octets[i] {
-            return false;
-        }
-        i += 1;
-    }
-    true
+    octets.iter().all(|&x| x <= 1)
 }
 
 // Whether one of the octets is not 0.
 fn one_among(octets: &[u8]) -> bool
     ensures { result ≡ one_among octets.now }
 {
-    let mut i = 0;
-    while i < octets.len() {
-        if octets[i] != 0 {
-            return true;
-        }
-        i += 1;
-    }
-    false
+    octets.iter().any(|&x| x != 0)
 }
 
 // Whether the first sixteen octets are bits, one to an octet, and not all 0, as eight to an octet may begin.

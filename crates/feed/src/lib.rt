@@ -5,8 +5,9 @@ ghost use Rattle.std.specs.Prelude.{◌≡◌};
 ghost use Rattle.session.specs.Lent.{lent};
 ghost use Rattle.feed.specs.Pull.{fresh, Tells, ReadsOn, Pulls};
 
+use answer::Refusal;
 use receiver::{Event, Receiver};
-use session::StepAnswer;
+use session::Accepted;
 use source::Source;
 use stretch::KEPT;
 use window::Refilled;
@@ -27,7 +28,7 @@ pub enum Pull {
     // t was told, and a session opened with it.
     Opened,
     // What the session answers to what it was offered.
-    Answered(StepAnswer),
+    Answered(Result<Accepted, Refusal>),
     // The recording is bad: nothing comes any more.
     Bad,
     // The input has ended.
@@ -85,24 +86,25 @@ impl Feed {
             (lent octets.old lengths.old firsts.old) result input.new kept.new
             (lent octets.new lengths.new firsts.new) }
     {
-        let at = self.at;
-        let end = self.end;
-        let before = receiver.source;
-        let received = receiver.next(window::hand(input, at, end), kept, octets, lengths, firsts);
-        let next = received.receiver;
-        let event = received.event;
-        let used = received.used;
-        let from = at + used;
-        let passed = std::num::wrapping_add_u64(self.passed, used as u64);
-        let told = tell(name, descriptor, input, from, end, passed, before, event);
-        let feed = told.feed;
-        let pull = told.pull;
-        let read = told.read;
+        let hand = window::hand(input, self.at, self.end);
+        let received = receiver.next(hand, kept, octets, lengths, firsts);
+        let from = self.at + received.used;
+        let passed = self.passed.wrapping_add(received.used as u64);
+        let told = tell(
+            name,
+            descriptor,
+            input,
+            from,
+            self.end,
+            passed,
+            receiver.source,
+            received.event,
+        );
         Pulled {
-            feed,
-            receiver: next,
-            pull,
-            read,
+            feed: told.feed,
+            receiver: received.receiver,
+            pull: told.pull,
+            read: told.read,
         }
     }
 }

@@ -2,7 +2,7 @@
 use crate::packets;
 use answer::Refusal;
 use counts::{ChannelCount, MasterCount};
-use frame::{Address, Callsign, Frame, FrameRead};
+use frame::{Address, Callsign, Frame};
 use records::{input, places, text};
 
 // Prints an address.
@@ -43,12 +43,12 @@ pub fn read(c: &[u8]) {
 // Prints what the frame reader says of octets.
 pub fn told(t: u8, octets: &[u8]) {
     match Frame::read(t, octets) {
-        FrameRead::Frame(f) => {
+        Ok(f) => {
             print(f);
             text::hex(b" data ", f.data(octets));
             text::hex(b" time ", f.time(t, octets));
         }
-        FrameRead::Refused(r) => refused(r),
+        Err(reason) => refused(Refusal::of(reason)),
     }
 }
 

@@ -1,7 +1,7 @@
 // The packet reader and writer.
-use answer::Written;
+use answer::Reason;
 use counts::SequenceCount;
-use packet::{Packet, PacketRead};
+use packet::Packet;
 use records::{input, places, text};
 
 // Prints a packet's fields.
@@ -20,12 +20,12 @@ pub fn print(p: Packet) {
 
 pub fn read(octets: &[u8]) {
     match Packet::read(octets) {
-        PacketRead::Packet(p) => {
+        Ok(p) => {
             text::say(b"accepted");
             print(p);
             text::hex(b" source ", p.source(octets));
         }
-        PacketRead::Refused(n) => text::field(b"refusal ", n as u64),
+        Err(reason) => text::field(b"refusal ", reason.number() as u64),
     }
 }
 
@@ -42,10 +42,10 @@ pub fn given(c: &[u8]) -> Packet {
 }
 
 // Prints what a writer answered, and its output, which held 0xEE everywhere.
-pub fn written(w: Written, out: &[u8]) {
+pub fn written(w: Result<usize, Reason>, out: &[u8]) {
     match w {
-        Written::Length(n) => text::field(b"accepted length ", n as u64),
-        Written::Refused(n) => text::field(b"refusal ", n as u64),
+        Ok(n) => text::field(b"accepted length ", n as u64),
+        Err(reason) => text::field(b"refusal ", reason.number() as u64),
     }
     text::lent(b" output ", out, 238);
 }

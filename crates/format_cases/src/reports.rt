@@ -1,8 +1,8 @@
 // The report reader and the writers.
 use crate::packets;
-use answer::Written;
+use answer::Reason;
 use records::{input, places, text};
-use report::{Available, Content, Failure, Housekeeping, Line, Report, ReportRead, Success};
+use report::{Available, Content, Failure, Housekeeping, Line, Report, Success};
 
 // Prints what a report says.
 fn print(content: Content, octets: &[u8]) {
@@ -35,7 +35,7 @@ fn print(content: Content, octets: &[u8]) {
 pub fn read(c: &[u8]) {
     let octets = input::block(c, places::INPUT);
     match Report::read(octets) {
-        ReportRead::Report(r) => {
+        Ok(r) => {
             text::say(b"accepted");
             if input::octet(c, places::SHOW) == 1 {
                 let p = r.packet;
@@ -44,12 +44,12 @@ pub fn read(c: &[u8]) {
             let content = r.content;
             print(content, octets);
         }
-        ReportRead::Refused(n) => text::field(b"refusal ", n as u64),
+        Err(reason) => text::field(b"refusal ", reason.number() as u64),
     }
 }
 
 // What the writers of verification answer.
-fn verified(c: &[u8], code: bool, out: &mut [u8]) -> Written {
+fn verified(c: &[u8], code: bool, out: &mut [u8]) -> Result<usize, Reason> {
     let p = packets::given(c);
     let id = input::word(c, places::FIRST);
     let control = input::word(c, places::SECOND);
@@ -63,7 +63,7 @@ fn verified(c: &[u8], code: bool, out: &mut [u8]) -> Written {
 }
 
 // What the writer of the case's report answers.
-fn answer(c: &[u8], out: &mut [u8]) -> Written {
+fn answer(c: &[u8], out: &mut [u8]) -> Result<usize, Reason> {
     let p = packets::given(c);
     let octets = input::block(c, places::INPUT);
     let image = input::word(c, places::FIRST);

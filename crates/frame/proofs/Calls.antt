@@ -1,19 +1,19 @@
 -- Demand 2 over the calls `write`, `read`, `data` and `time`, by the contracts that Rattle generates of them.
+use Rattle.std.specs.Prelude.{Ok}
 use Prim.Native.Nat.{ℕ}
 use mathlib.Core.Path.{◌≡◌, refl}
 use mathlib.Core.List.{List}
 use lib.ListN.{length}
 use Rattle.answer.specs.Called.{Called}
 use Rattle.answer.specs.Back.{Format, CallsBack}
-use Rattle.answer.specs.declared.Written.{Written}
+use Rattle.answer.specs.Writer.{Written}
 use Rattle.answer.proofs.Called.{of_call}
 use Rattle.answer.proofs.Back.{Defined}
 use Rattle.answer.proofs.Back as back
 use Rattle.frame.specs.Frame.{told, read_frame, data_of, time_of}
 use Rattle.frame.specs.Write.{fields_wrong, frame_octets, WroteFrame}
 use Rattle.frame.specs.declared.Frame.{Frame}
-use Rattle.frame.specs.declared.FrameRead.{FrameRead}
-use Rattle.frame.specs.declared.FrameRead.TheVariants as read
+use Rattle.frame.specs.Answers.{FrameRead}
 use Rattle.frame.proofs.ReadsBack.{reads-back}
 use Rattle.frame.proofs.Told.{told_apart}
 use Rattle.frame.proofs.WritesBack.{writes-back}
@@ -55,7 +55,7 @@ module _ (t : ℕ) where
       record {
         wrong = λ f b. fields_wrong f t (length b.0) (length b.1);
         octets = λ f b. frame_octets f t b.0 b.1;
-        accepting = read.Frame;
+        accepting = Ok;
         Writes = Writes;
         Reads = Reads;
         Finds = λ f s b. FindsData f s b.0 × FindsTime f s b.1;

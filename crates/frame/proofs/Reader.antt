@@ -1,25 +1,24 @@
 -- Facts that the reader's functions pass on.
-use Prim.Native.Nat.{ℕ, zero, suc, ◌+◌, ◌-◌, ◌≤◌, ◌<◌}
+use Rattle.std.specs.Prelude.{Option, Some, None}
+use Rattle.std.proofs.lemmas.Option.{none-some, same_Some}
+use Prim.Native.Nat.{ℕ, ◌+◌, ◌≤◌, ◌<◌}
 use native.Mathlib.Omega.{arith}
 use mathlib.Core.Path.{◌≡◌, refl, sym, ap, subst, ◌∙◌}
 use mathlib.Core.List.{List}
-use mathlib.Core.Bool.{Bool, false, not}
-use borrow.Author.Tests.{lt-ltb, le-ltb, eq-eqb, ne_eqb}
+use mathlib.Core.Bool.{Bool, true, false, not}
+use borrow.Author.Tests.{lt-ltb, le-ltb, ltb-true, eq-eqb, ne_eqb}
 use lib.ListN.{length, take, drop}
 use Rattle.octets.specs.Numbers.{at}
 use Rattle.octets.specs.Pick.{pick}
 use Rattle.octets.proofs.Choices.{picked, passed}
 use Rattle.octets.proofs.Tests.{facts}
-use Rattle.answer.specs.Told.{Told, accept, refuse, refuse_at, plain}
+use Rattle.answer.specs.Told.{Told, accept, refuse, refuse_at}
 use Rattle.answer.specs.Refusals as no
-use Rattle.answer.specs.declared.Refusal.{Refusal}
-use Rattle.frame.specs.Asked.{Whole}
+use Rattle.frame.specs.Asked.{Whole, blamed}
 use Rattle.frame.specs.Address.{first_wrong, address_wrong}
-use Rattle.frame.specs.Frame.{told, no_frame, length_wrong, control_wrong, protocol_wrong, version_wrong, flag_of, status_wrong}
+use Rattle.frame.specs.Frame.{no_frame, length_wrong, control_wrong, protocol_wrong, version_wrong, status_wrong}
 use Rattle.frame.specs.Frame.{pointer_wrong, data_length, status_of, fields_of, frame_of, read_information, read_header}
-use Rattle.frame.specs.declared.Address.{Address}
 use Rattle.frame.specs.declared.Frame.{Frame}
-use Rattle.frame.specs.declared.FrameRead.TheVariants.{Refused}
 
 -- a frame that isn't too short or too long
 pub whole : (t : ℕ) (s : List ℕ) {said : Bool} → t ≤ 8 → said ≡ length_wrong t (length s) → said ≡ false → Whole t s
@@ -28,33 +27,47 @@ whole t s h e f = let l : length_wrong t (length s) ≡ false = sym e ∙ f in s
 pub long : (t : ℕ) (s : List ℕ) {said : Bool} → t ≤ 8 → said ≡ length_wrong t (length s) → said ≡ false → 23 ≤ length s
 long t s h e f = omega (arith, (whole t s h e f).least)
 
--- a frame that was made of fields is known by its addresses, where its other fields are
-pub addressed : (f : Frame) {r : Frame} {to from : Address} → r ≡ f → f.destination ≡ to → f.source ≡ from
-    → r
-    ≡ record {
-      destination = to;
-      source = from;
-      channel = f.channel;
-      master = f.master;
-      count = f.count;
-      pointer = f.pointer;
-      telecommands = f.telecommands;
-      length = f.length;
-    }
-addressed f e e₁ e₂ = e ∙ simp (sym e₁, sym e₂)
+-- ---- what is told of an address
 
--- a refusal that tells no octet
-pub plainly : {r : Refusal} {n : ℕ} {x : Told Frame} → r ≡ plain n → refuse no_frame n ≡ x → told (Refused r) ≡ x
-plainly e h = ap (λ (r : Refusal). told (Refused r)) e ∙ h
+module _ (s : List ℕ) (last : ℕ) where
+  pub wrong_at : {n : ℕ} → n < 7 → n ≡ first_wrong s last → Some n ≡ blamed s last
+  wrong_at {n} l e = ap Some e ∙ picked _ _ _ (lt-ltb _ _ (subst (λ (k : ℕ). k < 7) e l))
+
+  pub none_wrong : 7 ≡ first_wrong s last → None ≡ blamed s last
+  none_wrong e = passed _ _ _ _ (le-ltb _ _ (omega (arith, e))) refl
+
+  pub record Blamed (n : ℕ) : Type 0 where
+    pub wrong : address_wrong s last ≡ true
+    pub first : n ≡ first_wrong s last
+    pub below : n < 7
+
+  pub blamed_at : {n : ℕ} → Some n ≡ blamed s last → Blamed n
+  unfolding pick
+  blamed_at {n} h = by (address_wrong s last) refl
+    where
+      by : (b : Bool) → address_wrong s last ≡ b → Blamed n
+      by true e =
+          let first : n ≡ first_wrong s last = same_Some _ _ (rw e at h) in
+          record { wrong = e; first = first; below = omega (arith, first, ltb-true _ _ e) }
+      by false e = absurd (none-some n (sym (rw e at h)))
+
+  pub right : None ≡ blamed s last → address_wrong s last ≡ false
+  unfolding pick
+  right h = by (address_wrong s last) refl
+    where
+      by : (b : Bool) → address_wrong s last ≡ b → address_wrong s last ≡ false
+      by true e = absurd (none-some _ (rw e at h))
+      by false e = e
 
 -- ---- the returns of read_header: each passes the refusals before it
 
-module _ (t : ℕ) (s : List ℕ) {to : ℕ} (d : to ≡ first_wrong (take 7 s) 0) where
-  pub destination-refused : to < 7 → refuse_at no_frame no.frame_destination to ≡ read_header t s
+module _ (t : ℕ) (s : List ℕ) {to : Option ℕ} (d : to ≡ blamed (take 7 s) 0) where
+  pub destination-refused : {n : ℕ} → to ≡ Some n → refuse_at no_frame no.frame_destination n ≡ read_header t s
   unfolding read_header
-  destination-refused h = ap (refuse_at no_frame no.frame_destination) d ∙ picked _ _ _ (lt-ltb _ _ (subst (λ (k : ℕ). k < 7) d h))
+  destination-refused h =
+      let w = blamed_at _ _ (sym h ∙ d) in ap (refuse_at no_frame no.frame_destination) w.first ∙ picked _ _ _ w.wrong
 
-  module _ (right : 7 ≤ to) where
+  module _ (right₁ : to ≡ None) where
     behind : {x : Told Frame}
         → x
         ≡ pick (address_wrong (take 7 (drop 7 s)) 1) (refuse_at no_frame no.frame_source (7 + first_wrong (take 7 (drop 7 s)) 1))
@@ -62,16 +75,17 @@ module _ (t : ℕ) (s : List ℕ) {to : ℕ} (d : to ≡ first_wrong (take 7 s) 
         (pick (protocol_wrong (at s 15)) (refuse no_frame no.frame_protocol) (read_information t s)))
         → x ≡ read_header t s
     unfolding read_header
-    behind e = passed _ _ _ _ (le-ltb _ _ (subst (λ (k : ℕ). 7 ≤ k) d right)) e
+    behind e = passed _ _ _ _ (right _ _ (sym right₁ ∙ d)) e
 
-    module _ {from : ℕ} (o : from ≡ first_wrong (take 7 (drop 7 s)) 1) where
-      pub source-refused : from < 7 → refuse_at no_frame no.frame_source (7 + from) ≡ read_header t s
+    module _ {from : Option ℕ} (o : from ≡ blamed (take 7 (drop 7 s)) 1) where
+      pub source-refused : {n : ℕ} → from ≡ Some n → refuse_at no_frame no.frame_source (7 + n) ≡ read_header t s
       source-refused h =
-          behind (ap (λ (k : ℕ). refuse_at no_frame no.frame_source (7 + k)) o ∙ picked _ _ _ (lt-ltb _ _ (subst (λ (k : ℕ). k < 7) o h)))
+          let w = blamed_at _ _ (sym h ∙ o) in
+          behind (ap (λ (k : ℕ). refuse_at no_frame no.frame_source (7 + k)) w.first ∙ picked _ _ _ w.wrong)
 
-      module _ (right₂ : 7 ≤ from) where
+      module _ (right₂ : from ≡ None) where
         past : address_wrong (take 7 (drop 7 s)) 1 ≡ false
-        past = le-ltb _ _ (subst (λ (k : ℕ). 7 ≤ k) o right₂)
+        past = right _ _ (sym right₂ ∙ o)
 
         pub control_refused : (at s 14 ≡ 3 → ⊥) → refuse no_frame no.frame_control ≡ read_header t s
         control_refused h = behind (passed _ _ _ _ past (picked _ _ _ (ap not (ne_eqb _ _ h))))
@@ -93,11 +107,3 @@ module _ (t : ℕ) (s : List ℕ) where
       → {f : Frame} → f ≡ fields_of s (data_length t s) (status_of t s) → accept f ≡ read_information t s
   unfolding read_information frame_of
   accepting h₃ h₄ h₅ e = passed _ _ _ _ h₃ (passed _ _ _ _ h₄ (passed _ _ _ _ h₅ (ap accept e)))
-
-pub flag-none : (t : ℕ) → t ≡ 0 → 0 ≡ flag_of t
-flag-none zero h = refl
-flag-none (suc n) h = absurd (omega arith)
-
-pub flag-some : (t : ℕ) → (t ≡ 0 → ⊥) → 8 + (t - 1) ≡ flag_of t
-flag-some zero h = absurd (h refl)
-flag-some (suc n) h = omega arith

@@ -1,21 +1,21 @@
 -- No two answers of the reader are told alike, and a refusal tells 0 in every field.
+use Rattle.std.specs.Prelude.{Ok, Err}
 use Prim.Native.Nat.{ℕ, ◌+◌}
 use mathlib.Core.Path.{◌≡◌, refl, ap}
 use mathlib.Core.List.{List}
 use mathlib.Core.Bool.{true≢false}
 use Rattle.octets.specs.Numbers.{at}
 use Rattle.answer.specs.Told.{TellsNothing, NoneLeftOut}
-use Rattle.answer.proofs.Told.{same-fields, same-refusal-at, accept_or_refuse, refuse_or_accept, had_back}
+use Rattle.answer.proofs.Told.{same-fields, same-reason, accept_or_refuse, refuse_or_accept, had_back}
 use Rattle.frame.specs.Frame.{frame_numbers, told, RefusalsTellNothing}
 use Rattle.frame.specs.declared.Address.{Address}
-use Rattle.frame.specs.declared.FrameRead.{FrameRead}
-use Rattle.frame.specs.declared.FrameRead.TheVariants as read
+use Rattle.frame.specs.Answers.{FrameRead}
 
 pub told_apart : (x y : FrameRead) → told x ≡ told y → x ≡ y
-told_apart (read.Frame f) (read.Frame g) h = ap read.Frame (same-fields h)
-told_apart (read.Refused n) (read.Refused m) h = ap read.Refused (same-refusal-at n m h)
-told_apart (read.Frame f) (read.Refused m) h = accept_or_refuse h
-told_apart (read.Refused n) (read.Frame g) h = refuse_or_accept h
+told_apart (Ok f) (Ok g) h = ap Ok (same-fields h)
+told_apart (Err n) (Err m) h = ap Err (same-reason n m h)
+told_apart (Ok f) (Err m) h = accept_or_refuse h
+told_apart (Err n) (Ok g) h = refuse_or_accept h
 
 -- the address whose numbers stand from index i on
 abbrev address_from : ℕ → List ℕ → Address
@@ -42,8 +42,8 @@ none-left-out =
     (λ f. refl)
 
 tell_nothing : TellsNothing told frame_numbers
-tell_nothing (read.Frame f) h = absurd (true≢false h)
-tell_nothing (read.Refused n) h = refl
+tell_nothing (Ok f) h = absurd (true≢false h)
+tell_nothing (Err n) h = refl
 
 pub refusals_tell_nothing : RefusalsTellNothing
 refusals_tell_nothing = (none-left-out, tell_nothing)

@@ -4,7 +4,7 @@ use mathlib.Core.List.{List}
 use Rattle.octets.specs.Unique.{Fixes}
 use Rattle.octets.proofs.Fixed.{fixed, fixed_told}
 use Rattle.answer.proofs.Writer.{one_written}
-use Rattle.answer.specs.declared.Written.{Written}
+use Rattle.answer.specs.Writer.{Written}
 use Rattle.frame.specs.Frame.{told}
 use Rattle.frame.proofs.Told.{told_apart}
 use Rattle.frame.proofs.Frame.new.Kinds as knew

@@ -1,6 +1,8 @@
--- What the crate's private functions ask of their callers.
-use Rattle.std.specs.Prelude.{ℕ, ◌+◌, ◌≤◌, ◌≡◌, List, length}
+-- What the crate's private functions ask of their callers, and what they promise them.
+use Rattle.std.specs.Prelude.{ℕ, ◌+◌, ◌≤◌, ◌≡◌, List, length, Option, Some, None}
 use Rattle.frame.specs.Limits.{least_length, longest_time, last_channel, most_telecommands, last_ssid}
+use Rattle.octets.specs.Pick.{pick}
+use Rattle.frame.specs.Address.{first_wrong, address_wrong}
 use Rattle.frame.specs.declared.Address.{Address}
 use Rattle.frame.specs.declared.Frame.{Frame}
 
@@ -33,3 +35,7 @@ pub record Room (f : Frame) (t : ℕ) (d m out : List ℕ) : Type 0 where
   pub front : FrontRoom f out
   pub lent : length m ≡ t
   pub room : length d + least_length + t ≤ length out
+
+-- The first wrong octet of an address, if one is wrong.
+abbrev pub blamed : List ℕ → ℕ → Option ℕ
+blamed s last = pick (address_wrong s last) (Some (first_wrong s last)) None

@@ -1,9 +1,9 @@
 -- Document 01, 'The frame': what a reader answers of octets and a time of t octets.
-use Rattle.std.specs.Prelude.{ℕ, zero, suc, ◌+◌, ◌-◌, ◌/◌, ◌%◌, List, [], ◌∷◌, ◌++◌, Bool, not, ◌&&◌, ◌||◌, length, take, drop, ltb, eqb}
+use Rattle.std.specs.Prelude.{ℕ, zero, suc, ◌+◌, ◌-◌, ◌/◌, ◌%◌, List, [], ◌∷◌, ◌++◌, Bool, not, ◌&&◌, ◌||◌, length, take, drop, ltb, eqb, Ok, Err}
 use Rattle.octets.specs.Numbers.{at}
 use Rattle.octets.specs.Parts.{part}
 use Rattle.octets.specs.Pick.{pick}
-use Rattle.answer.specs.Told.{Told, accept, refuse, refuse_at, TellsNothing, NoneLeftOut}
+use Rattle.answer.specs.Told.{Told, accept, refuse, refuse_at, TellsNothing, NoneLeftOut, refuse_for}
 use Rattle.answer.specs.Refusals as no
 use Rattle.bits.specs.Rows.{ones}
 use Rattle.bits.specs.Rows.Order.{low_first}
@@ -13,8 +13,7 @@ use Rattle.frame.specs.Places.{address_length, control_at, protocol_at, channel_
 use Rattle.frame.specs.Address.{first_wrong, address_wrong, address_of}
 use Rattle.frame.specs.declared.Address.{Address}
 use Rattle.frame.specs.declared.Frame.{Frame}
-use Rattle.frame.specs.declared.FrameRead.{FrameRead}
-use Rattle.frame.specs.declared.FrameRead.TheVariants as read
+use Rattle.frame.specs.Answers.{FrameRead}
 
 -- Every field 0.
 abbrev pub no_address : Address
@@ -44,8 +43,8 @@ frame_numbers f =
     ++ (f.channel ∷ f.master.0 ∷ f.count.0 ∷ f.pointer ∷ f.telecommands ∷ f.length ∷ [])
 
 abbrev pub told : FrameRead → Told Frame
-told (read.Frame f) = accept f
-told (read.Refused r) = refuse_at no_frame r.number r.octet
+told (Ok f) = accept f
+told (Err r) = refuse_for no_frame r
 
 abbrev pub RefusalsTellNothing : Type 0
 RefusalsTellNothing = NoneLeftOut frame_numbers × TellsNothing told frame_numbers

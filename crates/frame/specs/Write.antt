@@ -1,7 +1,7 @@
 -- Document 01, 'The frame': the octets of a frame's fields, n octets of data and a time of t octets.
 use Rattle.std.specs.Prelude.{ℕ, ◌+◌, ◌*◌, List, [], ◌∷◌, ◌++◌, Bool, not, ◌||◌, length, ltb, eqb}
 use Rattle.answer.specs.Writer.{Wrote}
-use Rattle.answer.specs.declared.Written.{Written}
+use Rattle.answer.specs.Writer.{Written}
 use Rattle.bits.specs.Rows.{ones}
 use Rattle.bits.specs.Rows.Order.{low_first}
 use Rattle.crc.specs.Check.{with_check}

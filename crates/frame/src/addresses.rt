@@ -1,18 +1,16 @@
 // One address: six shifted characters and the SSID octet.
 ghost use Rattle.std.specs.Prelude.{◌≡◌, length, ◌≤◌};
-ghost use Rattle.frame.specs.Address.{sign, breaks, unfit, shifted_sign, start_wrong, next_wrong, ssid_wrong, first_wrong, address_of};
+ghost use Rattle.frame.specs.Address.{sign, breaks, unfit, shifted_sign, start_wrong, next_wrong, ssid_wrong, address_of};
 ghost use Rattle.frame.specs.Address.{address_octets};
-ghost use Rattle.frame.specs.Asked.{Fits};
+ghost use Rattle.frame.specs.Asked.{blamed, Fits};
 
 use super::{Address, Callsign};
 
 // An address's octets.
 pub(crate) const LENGTH: usize = 7;
 
-// What first_wrong answers of an all-blank callsign, and where no octet is wrong.
+// The octet that is told of an all-blank callsign.
 const ALL_BLANK: u8 = 0;
-
-pub(crate) const NONE: u8 = 7;
 
 const SPACE: u8 = 32;
 
@@ -23,7 +21,7 @@ const BLANK: u8 = 64;
 fn sign(x: u8) -> bool
     ensures { result ≡ sign x }
 {
-    ((65 <= x) & (x <= 90)) | ((48 <= x) & (x <= 57))
+    x.is_ascii_uppercase() | x.is_ascii_digit()
 }
 
 // Whether x may not stand behind the character before.
@@ -78,29 +76,27 @@ fn ssid_wrong(x: u8, last: u8) -> bool
     (x / 32 != 3) | (x % 2 != last)
 }
 
-// The first wrong octet of an address, or NONE.
-pub(crate) fn first_wrong(s: &[u8], last: u8) -> u8
+// The first wrong octet of an address, if one is wrong.
+pub(crate) fn first_wrong(s: &[u8], last: u8) -> Option<u8>
     requires { 7 ≤ length s.now }
-    ensures { result ≡ first_wrong s.now last }
+    ensures { result ≡ blamed s.now last }
 {
     if start_wrong(s[0]) {
-        return 0;
+        return Some(0);
     }
-    let mut i = 0;
-    while i < 5 {
+    for i in 0..5 {
         let next = i + 1;
         if next_wrong(s[i], s[next]) {
-            return next as u8;
+            return Some(next as u8);
         }
-        i = next;
     }
     if s[0] == BLANK {
-        return ALL_BLANK;
+        return Some(ALL_BLANK);
     }
     if ssid_wrong(s[6], last) {
-        return 6;
+        return Some(6);
     }
-    NONE
+    None
 }
 
 // The address that stands in seven octets, each character shifted back.

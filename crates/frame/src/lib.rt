@@ -5,7 +5,7 @@ ghost use Rattle.std.specs.Prelude.{◌≡◌};
 ghost use Rattle.frame.specs.Frame.{told, read_frame, data_of, time_of};
 ghost use Rattle.frame.specs.Write.{WroteFrame};
 
-use answer::{Refusal, Written};
+use answer::Reason;
 use counts::{ChannelCount, MasterCount};
 
 mod addresses;
@@ -33,13 +33,6 @@ pub struct Frame {
     pub pointer: u8,
     pub telecommands: u8,
     pub length: usize,
-}
-
-// What a frame's octets are: its fields, or the refusal.
-#[derive(Clone, Copy)]
-pub enum FrameRead {
-    Frame(Frame),
-    Refused(Refusal),
 }
 
 impl Address {
@@ -108,18 +101,18 @@ impl Frame {
 
     // The fields of a single frame whose time has t octets, or the first of the refusals 2, 10, 11, 120 to 123, 13 to 15. The octets
     // stay as they are.
-    pub fn read(t: u8, octets: &[u8]) -> FrameRead
+    pub fn read(t: u8, octets: &[u8]) -> Result<Frame, Reason>
         ensures { told result ≡ read_frame t octets.now }
     {
         let time = t as usize;
         if Frame::LONGEST_TIME < time {
-            return FrameRead::Refused(Refusal::plain(answer::TIME_LENGTH));
+            return Err(Reason::TimeLength);
         }
         if reading::length_wrong(time, octets.len()) {
-            return FrameRead::Refused(Refusal::plain(answer::FRAME_LENGTH));
+            return Err(Reason::FrameLength);
         }
         if reading::check_wrong(octets) {
-            return FrameRead::Refused(Refusal::plain(answer::FRAME_CHECK));
+            return Err(Reason::FrameCheck);
         }
         reading::read_header(time, octets)
     }
@@ -143,20 +136,20 @@ impl Frame {
     }
 
     // The frame's octets at the start of out, and their number; else 51 or 50, and out stays.
-    pub fn write(self, t: u8, data: &[u8], time: &[u8], out: &mut [u8]) -> Written
+    pub fn write(self, t: u8, data: &[u8], time: &[u8], out: &mut [u8]) -> Result<usize, Reason>
         ensures { WroteFrame self t «data».now time.now out.old result out.new }
     {
         let n = data.len();
         let m = time.len();
         let asked = t as usize;
         if writing::fields_wrong(self, asked, n, m) {
-            return Written::Refused(answer::FIELD_RANGE);
+            return Err(Reason::FieldRange);
         }
         let whole = n + Frame::LEAST + m;
         if out.len() < whole {
-            return Written::Refused(answer::OUTPUT_SHORT);
+            return Err(Reason::OutputShort);
         }
         writing::lay(self, asked, data, time, out);
-        Written::Length(whole)
+        Ok(whole)
     }
 }

@@ -8,8 +8,8 @@ ghost use Rattle.frame.specs.Limits.{least_length, longest_time};
 ghost use Rattle.frame.specs.Frame.{told, flag_of, length_wrong, version_wrong, status_wrong, pointer_wrong, fields_of, read_header};
 ghost use Rattle.frame.specs.Frame.{read_information};
 
-use super::{Frame, FrameRead, addresses};
-use answer::Refusal;
+use super::{Frame, addresses};
+use answer::Reason;
 use counts::{ChannelCount, MasterCount};
 
 // The control and the protocol octet.
@@ -80,14 +80,14 @@ fn status_wrong(t: usize, x: u8) -> bool
     requires { t ≤ longest_time }
     ensures { result ≡ status_wrong t x }
 {
-    (octets::wide(x / 16) != flag(t)) | (x / 4 % 4 != 0)
+    (usize::from(x / 16) != flag(t)) | (x / 4 % 4 != 0)
 }
 
 // Whether the pointer is wrong for n octets of data: refusal 15.
 pub(crate) fn pointer_wrong(pointer: u8, n: usize) -> bool
     ensures { result ≡ pointer_wrong pointer n }
 {
-    !((octets::wide(pointer) < n)
+    !((usize::from(pointer) < n)
         | (pointer == Frame::NONE_STARTS)
         | ((pointer == Frame::RAW_DATA) & (n != 0)))
 }
@@ -112,49 +112,41 @@ fn frame_of(s: &[u8], n: usize, status: u8) -> Frame
 }
 
 // What a frame with a right header is: its fields, or the first of the refusals 13 to 15.
-fn read_information(t: usize, s: &[u8]) -> FrameRead
+fn read_information(t: usize, s: &[u8]) -> Result<Frame, Reason>
     requires { Whole t s.now }
     ensures { told result ≡ read_information t s.now }
 {
     if version_wrong(s[CHANNEL_AT]) {
-        return FrameRead::Refused(Refusal::plain(answer::FRAME_VERSION));
+        return Err(Reason::FrameVersion);
     }
     let status = s[s.len() - AROUND_TIME - t];
     if status_wrong(t, status) {
-        return FrameRead::Refused(Refusal::plain(answer::FRAME_STATUS));
+        return Err(Reason::FrameStatus);
     }
     let n = s.len() - Frame::LEAST - t;
     if pointer_wrong(s[POINTER_AT], n) {
-        return FrameRead::Refused(Refusal::plain(answer::FRAME_POINTER));
+        return Err(Reason::FramePointer);
     }
-    FrameRead::Frame(frame_of(s, n, status))
+    Ok(frame_of(s, n, status))
 }
 
 // What a frame of a right length and check is: the first of the refusals 120 to 123, an address's with its octet in the frame; else as
 // its information is.
-pub(crate) fn read_header(t: usize, s: &[u8]) -> FrameRead
+pub(crate) fn read_header(t: usize, s: &[u8]) -> Result<Frame, Reason>
     requires { Whole t s.now }
     ensures { told result ≡ read_header t s.now }
 {
-    let to = addresses::first_wrong(&s[0..SOURCE_AT], 0);
-    if to < addresses::NONE {
-        return FrameRead::Refused(Refusal {
-            number: answer::FRAME_DESTINATION,
-            octet: to,
-        });
+    if let Some(to) = addresses::first_wrong(&s[0..SOURCE_AT], 0) {
+        return Err(Reason::FrameDestination(to));
     }
-    let from = addresses::first_wrong(&s[SOURCE_AT..CONTROL_AT], 1);
-    if from < addresses::NONE {
-        return FrameRead::Refused(Refusal {
-            number: answer::FRAME_SOURCE,
-            octet: SOURCE_AT as u8 + from,
-        });
+    if let Some(from) = addresses::first_wrong(&s[SOURCE_AT..CONTROL_AT], 1) {
+        return Err(Reason::FrameSource(SOURCE_AT as u8 + from));
     }
     if s[CONTROL_AT] != CONTROL {
-        return FrameRead::Refused(Refusal::plain(answer::FRAME_CONTROL));
+        return Err(Reason::FrameControl);
     }
     if s[PROTOCOL_AT] != PROTOCOL {
-        return FrameRead::Refused(Refusal::plain(answer::FRAME_PROTOCOL));
+        return Err(Reason::FrameProtocol);
     }
     read_information(t, s)
 }

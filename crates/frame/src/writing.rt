@@ -31,14 +31,12 @@ fn head(f: Frame) -> [u8; 6]
     requires { f.channel ≤ last_channel }
     ensures { result ≡ head_of f }
 {
-    let master = f.master;
-    let count = f.count;
     [
         reading::CONTROL,
         reading::PROTOCOL,
         8 * f.channel,
-        master.0,
-        count.0,
+        f.master.0,
+        f.count.0,
         f.pointer,
     ]
 }
@@ -69,9 +67,8 @@ fn seal(out: &mut [u8], n: usize)
     requires { n ≤ length out.old }
     ensures { out.new ≡ put out.old n (octets_of low_first (frame_check (take n out.old))) }
 {
-    let check = crc::frame_check(&out[..n]);
-    let tail = [(check % 256) as u8, (check / 256) as u8];
-    octets::put(out, n, &tail);
+    let check = u16::to_le_bytes(crc::frame_check(&out[..n]));
+    octets::put(out, n, &check);
 }
 
 // The frame's octets at the start of out; beyond them out stays.

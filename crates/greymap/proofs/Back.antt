@@ -1,4 +1,5 @@
 -- What is written reads back, and what is accepted is what the writer gives for it.
+use Rattle.std.specs.Prelude.{Ok}
 use Prim.Native.Nat.{ℕ, zero, suc, ◌+◌, ◌*◌, ◌≤◌}
 use native.Mathlib.Omega.{arith}
 use mathlib.Core.Path.{◌≡◌, refl, sym, ap, subst, ◌∙◌}
@@ -32,8 +33,6 @@ use Rattle.greymap.specs.Reading as reading
 use Rattle.greymap.specs.Reading.{greymap_wrong, pixels_in, text_wrong, numbers_in, unnumbered_wrong}
 use Rattle.greymap.specs.Back.{CallsReadBack, CallsWriteBack}
 use Rattle.greymap.specs.declared.Lengths.{Lengths}
-use Rattle.greymap.specs.declared.PictureRead.TheVariants as read
-use Rattle.greymap.specs.declared.PictureWritten.TheVariants as wrote
 use Rattle.greymap.proofs.Shown.{line-length, lines-length}
 use Rattle.greymap.proofs.Wrote.{room_of, greymap-length}
 use Rattle.greymap.proofs.Accepted.{right-length}
@@ -149,7 +148,7 @@ module _ (image : Image) (whole : short image ≡ false) where
 
 -- a writer that answered lengths left both
 module _ (image : Image) (out : writing.Outputs) (l : Lengths) (out' : writing.Outputs)
-    (w : writing.Writes image out (wrote.Lengths l) out') where
+    (w : writing.Writes image out (Ok l) out') where
   record Left : Type 0 where
     whole : short image ≡ false
     grey : take l.grey out'.grey ≡ greymap_of image
@@ -158,14 +157,14 @@ module _ (image : Image) (out : writing.Outputs) (l : Lengths) (out' : writing.O
   left : Left
   unfolding writing.writing
   left =
-      let no : (n : ℕ) → refused (writing.lengths 0 0) n out ≡ writing.observed (wrote.Lengths l) out' → ⊥ = λ n e. refuse_or_accept
+      let no : (n : ℕ) → refused (writing.lengths 0 0) n out ≡ writing.observed (Ok l) out' → ⊥ = λ n e. refuse_or_accept
       (ap (λ (o : Outcome Lengths writing.Outputs). o.answer) e) in
       let a = not_picked (short image) _ _ _ (sym w) (no _) in
       let b = not_picked _ _ _ _ a.1 (no _) in
       let g : List ℕ = greymap_of image in
       let t : List ℕ = text_of image.lines in
       let e : accepted (writing.lengths (length g) (length t)) (writing.outputs (written g out.grey) (written t out.text)) ≡
-      writing.observed (wrote.Lengths l) out' = b.1 in
+      writing.observed (Ok l) out' = b.1 in
       let one : writing.lengths (length g) (length t) ≡ l = ap (λ (o : Outcome Lengths writing.Outputs). o.answer.fields) e in
       let both : writing.outputs (written g out.grey) (written t out.text) ≡ out' = ap
       (λ (o : Outcome Lengths writing.Outputs). o.lent) e in
@@ -180,14 +179,14 @@ module _ (image : Image) (out : writing.Outputs) (l : Lengths) (out' : writing.O
 pub calls-read-back : CallsReadBack
 calls-read-back image out l out' small w before answer after room r =
     let k = left image out l out' w in
-    let e = one-read {y = read.Read} (r
+    let e = one-read {y = (Ok tt)} (r
     ∙ ap (λ (g : List ℕ). reading.reading g (take l.text out'.text) before) k.grey
     ∙ ap (λ (t : List ℕ). reading.reading (greymap_of image) t before) k.text
     ∙ sym (reads image k.whole small before room)) in
     (ap (λ x. x.0) e, ap (λ x. x.1) e)
 
 -- what was accepted is right
-module _ (grey text : List ℕ) (before after : Image) (r : reading.Reads grey text before read.Read after) where
+module _ (grey text : List ℕ) (before after : Image) (r : reading.Reads grey text before (Ok tt) after) where
   record Right : Type 0 where
     greymap : greymap_wrong grey ≡ false
     list : text_wrong text ≡ false
@@ -197,7 +196,7 @@ module _ (grey text : List ℕ) (before after : Image) (r : reading.Reads grey t
   right : Right
   unfolding reading.reading
   right =
-      let no : (n : ℕ) → refused tt n before ≡ reading.observed read.Read after → ⊥ = λ n e. refuse_or_accept
+      let no : (n : ℕ) → refused tt n before ≡ reading.observed (Ok tt) after → ⊥ = λ n e. refuse_or_accept
       (ap (λ (o : Outcome (Unit {0}) Image). o.answer) e) in
       let a = not_picked _ _ _ _ (sym r) (no _) in
       let b = not_picked _ _ _ _ a.1 (no _) in
@@ -270,7 +269,7 @@ pub calls_write_back : CallsWriteBack
 calls_write_back grey text before after r out answer out' wide far w =
     let g = its_grey grey text before after r in
     let t = its_text grey text before after r in
-    let e = one_written {y = wrote.Lengths (writing.lengths (length (greymap_of after)) (length (text_of after.lines)))}
+    let e = one_written {y = Ok (writing.lengths (length (greymap_of after)) (length (text_of after.lines)))}
     (w ∙ sym (given after out (not_short grey text before after r) (rw g wide) (rw t far))) in
     let o : out' ≡ writing.outputs (written (greymap_of after) out.grey) (written (text_of after.lines) out.text) = ap
     (λ x. x.1) e in

@@ -1,25 +1,29 @@
 -- Laws of reading the line numbers, and of lines numbered 0.
+use Rattle.std.specs.Prelude.{Some, None}
+use Rattle.std.proofs.lemmas.Option.{none-some, same_Some}
+use borrow.Author.Tests.{lt-ltb, le-ltb}
 use Prim.Native.Nat.{ℕ, suc, ◌+◌, ◌-◌, ◌≤◌, ◌<◌}
 use native.Mathlib.Omega.{arith}
 use native.Mathlib.Numerals.{add-one}
 use mathlib.Core.Path.{◌≡◌, refl, sym, ap, ◌∙◌}
 use mathlib.Core.List.{List, [], ◌∷◌, ◌++◌, append_assoc, append-nil}
-use mathlib.Core.Bool.{Bool, true, false, not, ◌||◌, ◌&&◌, true≢false}
+use mathlib.Core.Bool.{Bool, true, false, not, ◌||◌, ◌&&◌}
 use lib.ListN.{length, take, drop, set, length-set, length-drop, drop_of_length-le}
 use lib.Seq.{take-suc-set, take_all, drop-cons, drop-drop}
 use lib.Dec.{eqb, ltb}
 use Rattle.octets.specs.Numbers.{at}
 use Rattle.octets.specs.Parts.{part}
+use Rattle.octets.specs.Pick.{pick}
 use Rattle.octets.specs.Same.{same}
+use Rattle.octets.proofs.Choices.{picked, passed, not_picked}
 use Rattle.octets.proofs.Placing.{part-some}
 use Rattle.decimal.specs.Read.{read_at, numbers_of, numbers_wrong}
-use Rattle.decimal.specs.declared.NumberRead.{NumberRead}
-use Rattle.decimal.specs.declared.NumberRead.TheVariants.{Read, Wrong}
+use Rattle.decimal.specs.Answers.{NumberRead}
 use Rattle.decimal.proofs.Several.{read_at_lem, wrong-at, wrong-here, wrong-on, numbers_on, no_numbers, none_left}
 use Rattle.image.specs.Line.{line_pixels, image_lines, image_octets, start}
 use Rattle.greymap.specs.Picture.{header_octets, newline, blank}
 use Rattle.greymap.specs.Reading.{text_wrong, numbers_in, pixels_in, unnumbered_wrong}
-use Rattle.greymap.specs.Asked.{Listed, Picture}
+use Rattle.greymap.specs.Asked.{listed, Picture}
 
 -- the first i numbers of a text were read into a list, and the others are sought from index from on
 pub record Listing (text : List ℕ) (from i : ℕ) (list : List ℕ) : Type 0 where
@@ -36,7 +40,7 @@ module _ (text list : List ℕ) (from i : ℕ) (g : Listing text from i list) (i
   left_over : image_lines - i ≡ suc (image_lines - (i + 1))
   left_over = omega arith
 
-  pub one-listed : {n next : ℕ} → r ≡ Read n next → Listing text next (i + 1) (set list i n)
+  pub one-listed : {n next : ℕ} → r ≡ Some (n, next) → Listing text next (i + 1) (set list i n)
   one-listed {n} {next} h =
       let s = read_at_lem text from newline n next (sym e ∙ h) in
       let k : ℕ = image_lines - (i + 1) in
@@ -53,32 +57,50 @@ module _ (text list : List ℕ) (from i : ℕ) (g : Listing text from i list) (i
         most = omega arith;
       }
 
-  pub wrong-listed : r ≡ Wrong → Listed text true list
-  wrong-listed h = record {
-    answers = sym (g.wrong ∙ ap (λ (j : ℕ). numbers_wrong j newline (drop from text)) left_over
-        ∙ wrong-here (image_lines - (i + 1)) newline (drop from text) (wrong-at text from newline (sym e ∙ h)));
-    leaves = λ t. absurd (true≢false t);
-  }
+  pub wrong-listed : r ≡ None → None ≡ listed text
+  wrong-listed h =
+      picked _ _ _
+      (g.wrong ∙ ap (λ (j : ℕ). numbers_wrong j newline (drop from text)) left_over
+      ∙ wrong-here (image_lines - (i + 1)) newline (drop from text) (wrong-at text from newline (sym e ∙ h)))
 
-pub all_listed : (text list : List ℕ) (from i : ℕ) → Listing text from i list → image_lines ≤ i → Listed text (ltb from (length text)) list
-all_listed text list from i g end =
-    let l = g.long in
-    let none : image_lines - i ≡ 0 = omega arith in
-    record {
-      answers = none_left text from newline ∙ sym (g.wrong ∙ ap (λ (j : ℕ). numbers_wrong j newline (drop from text)) none);
-      leaves = λ t. sym (g.numbers
-          ∙ ap (λ (j : ℕ). take i list ++ numbers_of j (drop from text)) none
-          ∙ ap (λ (ns : List ℕ). take i list ++ ns) (no_numbers (drop from text))
-          ∙ append-nil (take i list) ∙ take_all i list (omega arith));
-    }
+module _ (text list : List ℕ) (from i : ℕ) (g : Listing text from i list) (end : image_lines ≤ i) where
+  none : image_lines - i ≡ 0
+  none = let m = g.most in omega arith
+
+  rest : text_wrong text ≡ ltb from (length text)
+  rest = g.wrong ∙ ap (λ (j : ℕ). numbers_wrong j newline (drop from text)) none ∙ sym (none_left text from newline)
+
+  pub more_left : from < length text → None ≡ listed text
+  more_left h = picked _ _ _ (rest ∙ lt-ltb from (length text) h)
+
+  pub all_listed : length text ≤ from → Some list ≡ listed text
+  all_listed h =
+      let l = g.long in
+      let numbers : numbers_in text ≡ list =
+      g.numbers
+      ∙ ap (λ (j : ℕ). take i list ++ numbers_of j (drop from text)) none
+      ∙ ap (λ (ns : List ℕ). take i list ++ ns) (no_numbers (drop from text))
+      ∙ append-nil (take i list) ∙ take_all i list (omega arith) in
+      passed _ _ _ _ (rest ∙ le-ltb from (length text) h) (ap Some (sym numbers))
+
+-- what was listed
+pub list_of : (text : List ℕ) {list : List ℕ} → Some list ≡ listed text → (text_wrong text ≡ false) × (list ≡ numbers_in text)
+list_of text {list} h =
+    let k = not_picked (text_wrong text) None (Some (numbers_in text)) (Some list) (sym h) (λ e. none-some list e) in
+    (k.0, same_Some list (numbers_in text) (sym k.1))
+
+pub not_listed : (text : List ℕ) → None ≡ listed text → text_wrong text ≡ true
+unfolding pick
+not_listed text h = by (text_wrong text) refl
+  where
+    by : (b : Bool) → text_wrong text ≡ b → text_wrong text ≡ true
+    by true e = e
+    by false e = absurd (none-some (numbers_in text) (rw e at h))
 
 -- the lines before the n-th were found right
 pub record Looking (list grey : List ℕ) (n : ℕ) : Type 0 where
   pub rest : unnumbered_wrong list (pixels_in grey) ≡ unnumbered_wrong (drop n list) (drop (start n) (pixels_in grey))
   pub most : n ≤ image_lines
-
-pub none-looked : (list grey : List ℕ) → Looking list grey 0
-none-looked list grey = record { rest = refl; most = omega arith }
 
 module _ (list grey : List ℕ) (n : ℕ) (a : Picture list grey) (k : Looking list grey n) (inside : n < image_lines) {row : List ℕ}
     (e : row ≡ part grey (header_octets + start n) line_pixels) where

@@ -1,12 +1,11 @@
 -- Laws of lines as they are shown, one behind another.
 use Prim.Native.Nat.{ℕ, suc, ◌+◌, ◌*◌, ◌≤◌, ◌<◌}
 use native.Mathlib.Omega.{arith}
-use native.Mathlib.Nat.{zero-add}
 use native.Mathlib.Numerals.{add-one}
 use mathlib.Core.Path.{◌≡◌, refl, sym, ap, ◌∙◌}
 use mathlib.Core.List.{List, [], ◌∷◌, ◌++◌, append_assoc, append-nil}
-use lib.ListN.{length, take, drop, set, length-append, length-drop, length-replicate}
-use lib.Seq.{take-suc, drop-drop, length-take-le, take-length, paste, paste-suc}
+use lib.ListN.{length, take, drop, length-append, length-drop, length-replicate}
+use lib.Seq.{take-suc, drop-drop, length-take-le}
 use Rattle.octets.specs.Numbers.{at}
 use Rattle.octets.specs.Parts.{part, put, written}
 use Rattle.octets.proofs.Choices.{picks}
@@ -65,9 +64,6 @@ pub record Drawing (image lines grey₀ : List ℕ) (n : ℕ) (grey : List ℕ) 
   pub most : n ≤ image_lines
   pub same : length grey ≡ length grey₀
 
-pub none_drawn : (image lines grey : List ℕ) → Drawing image lines grey 0 grey
-none_drawn image lines grey = record { drawn = λ out e room. e; most = omega arith; same = refl }
-
 pub one_drawn : (image lines grey₀ grey row grey' : List ℕ) (n : ℕ) → Room (image_of image lines) → n < image_lines
     → Drawing image lines grey₀ n grey
     → row ≡ part image (start n) line_pixels → grey' ≡ put grey (header_octets + start n) (line_shown (at lines n) row)
@@ -103,16 +99,3 @@ all_drawn image lines grey₀ grey out n end d e room =
     let all : n ≡ image_lines = omega (arith, d.most) in
     d.drawn out (e ∙ put_first header out (omega arith)) room
     ∙ ap (λ (k : ℕ). written (header ++ lines_shown (take k lines) image) out) all
-
--- numbers copied to the start of a list, one more
-pub copied_on : (before list lines : List ℕ) (i : ℕ) → i < length list → length list ≤ length before → lines ≡ paste before 0 list i
-    → set lines i (at list i) ≡ paste before 0 list (i + 1)
-copied_on before list lines i inside room e =
-    let x : ℕ = at list i in
-    ap (λ (l : List ℕ). set l i x) e
-    ∙ ap (λ (k : ℕ). set (paste before 0 list i) k x) (sym (zero-add i))
-    ∙ paste-suc before 0 list i 0 (omega (arith, zero-add i)) inside
-    ∙ ap (paste before 0 list) (sym (add-one i))
-
-pub all_copied : (before list lines : List ℕ) (i : ℕ) → i ≡ length list → lines ≡ paste before 0 list i → lines ≡ written list before
-all_copied before list lines i end e = e ∙ simp (end, take-length, zero-add)

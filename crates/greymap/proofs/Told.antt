@@ -1,29 +1,28 @@
 -- No two answers, with what they leave, are told alike, and a refusal leaves all that was lent.
+use Rattle.std.specs.Prelude.{Ok, Err}
 use mathlib.Core.Path.{◌≡◌, refl, sym, ap, subst}
 use mathlib.Core.Bool.{true≢false}
 use Rattle.octets.proofs.Choices.{picks}
-use Rattle.answer.proofs.Told.{same-fields, same-refusal, accept_or_refuse, refuse_or_accept}
+use Rattle.answer.proofs.Told.{same-fields, same-reason, accept_or_refuse, refuse_or_accept}
 use Rattle.image.specs.Line.{Image}
 use Rattle.greymap.specs.Outcome.{Outcome, Leaves}
 use Rattle.greymap.specs.Writing as writing
 use Rattle.greymap.specs.Reading as reading
 use Rattle.greymap.specs.declared.Lengths.{Lengths}
-use Rattle.greymap.specs.declared.PictureRead.{PictureRead}
-use Rattle.greymap.specs.declared.PictureRead.TheVariants as read
-use Rattle.greymap.specs.declared.PictureWritten.{PictureWritten}
-use Rattle.greymap.specs.declared.PictureWritten.TheVariants as wrote
+use Rattle.greymap.specs.Answers.{PictureRead}
+use Rattle.greymap.specs.Answers.{PictureWritten}
 
 written_apart : (x y : PictureWritten) → writing.told x ≡ writing.told y → x ≡ y
-written_apart (wrote.Lengths n) (wrote.Lengths m) h = ap wrote.Lengths (same-fields h)
-written_apart (wrote.Refused n) (wrote.Refused m) h = ap wrote.Refused (same-refusal h)
-written_apart (wrote.Lengths n) (wrote.Refused m) h = accept_or_refuse h
-written_apart (wrote.Refused n) (wrote.Lengths m) h = refuse_or_accept h
+written_apart (Ok n) (Ok m) h = ap Ok (same-fields h)
+written_apart (Err n) (Err m) h = ap Err (same-reason n m h)
+written_apart (Ok n) (Err m) h = accept_or_refuse h
+written_apart (Err n) (Ok m) h = refuse_or_accept h
 
 read_apart : (x y : PictureRead) → reading.told x ≡ reading.told y → x ≡ y
-read_apart read.Read read.Read h = refl
-read_apart (read.Refused n) (read.Refused m) h = ap read.Refused (same-refusal h)
-read_apart read.Read (read.Refused m) h = accept_or_refuse h
-read_apart (read.Refused n) read.Read h = refuse_or_accept h
+read_apart (Ok u) (Ok v) h = ap Ok (same-fields h)
+read_apart (Err n) (Err m) h = ap Err (same-reason n m h)
+read_apart (Ok u) (Err m) h = accept_or_refuse h
+read_apart (Err n) (Ok u) h = refuse_or_accept h
 
 pub one_written : {x y : PictureWritten} {i j : writing.Outputs} → writing.observed x i ≡ writing.observed y j
     → ◌≡◌ {A = PictureWritten × writing.Outputs} (x, i) (y, j)

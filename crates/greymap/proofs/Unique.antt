@@ -3,8 +3,8 @@ use mathlib.Core.Path.{sym, ◌∙◌}
 use Rattle.octets.specs.Unique.{Fixes}
 use Rattle.image.specs.Line.{Image, image_of}
 use Rattle.greymap.specs.Writing.{Outputs, outputs}
-use Rattle.greymap.specs.declared.PictureRead.{PictureRead}
-use Rattle.greymap.specs.declared.PictureWritten.{PictureWritten}
+use Rattle.greymap.specs.Answers.{PictureRead}
+use Rattle.greymap.specs.Answers.{PictureWritten}
 use Rattle.greymap.proofs.Told.{one_written, one-read}
 use Rattle.greymap.proofs.write.Kinds as kwrite
 use Rattle.greymap.proofs.write.Reads as rwrite

@@ -1,4 +1,5 @@
 -- The ends of `write`, and the text that it puts.
+use Rattle.std.specs.Prelude.{Ok, Err}
 use Prim.Native.Nat.{ℕ, ◌+◌, ◌*◌, ◌≤◌, ◌<◌}
 use native.Mathlib.Omega.{arith}
 use native.Mathlib.Nat.{zero-add}
@@ -13,7 +14,7 @@ use Rattle.octets.specs.Parts.{part, put, written}
 use Rattle.octets.proofs.Choices.{picked, passed}
 use Rattle.octets.proofs.Placing.{part-some, put-none, put_first}
 use Rattle.octets.proofs.Tests.{or_left, or_right}
-use Rattle.answer.specs.Refusals.{image_short, output_short}
+use Rattle.answer.specs.declared.Reason.TheVariants.{ImageShort, OutputShort}
 use Rattle.decimal.specs.Text.{longest_number, each}
 use Rattle.decimal.specs.Laid.{Puts}
 use Rattle.decimal.proofs.Laid.{numbers-laid}
@@ -22,7 +23,6 @@ use Rattle.greymap.specs.Picture.{header, greymap_octets, newline, numbers_of, l
 use Rattle.greymap.specs.Writing.{Outputs, outputs, lengths, observed, roomless, writing}
 use Rattle.greymap.specs.Back.{GreymapLength}
 use Rattle.greymap.specs.Asked.{PutText}
-use Rattle.greymap.specs.declared.PictureWritten.TheVariants as answers
 use Rattle.greymap.proofs.Shown.{lines-length}
 
 -- an image that is not too short
@@ -62,7 +62,7 @@ text-put lines list list' text text' row n many long same p e put' =
 
 -- the answers, one for each end
 module _ (image : Image) (out : Outputs) where
-  pub image-short : {said : Bool} → said ≡ short image → said ≡ true → observed (answers.Refused image_short) out ≡ writing image out
+  pub image-short : {said : Bool} → said ≡ short image → said ≡ true → observed (Err ImageShort) out ≡ writing image out
   unfolding writing
   image-short e h = picked _ _ _ (sym e ∙ h)
 
@@ -70,7 +70,7 @@ module _ (image : Image) (out : Outputs) where
     long : length (greymap_of image) ≡ greymap_octets
     long = greymap-length image (sym e ∙ h)
 
-    pub grey-short : length out.grey < greymap_octets → observed (answers.Refused output_short) out ≡ writing image out
+    pub grey-short : length out.grey < greymap_octets → observed (Err OutputShort) out ≡ writing image out
     unfolding writing roomless
     grey-short s = passed _ _ _ _ (sym e ∙ h)
         (picked _ _ _ (ap (λ (b : Bool). b || ltb (length out.text) (length (text_of image.lines)))
@@ -81,17 +81,17 @@ module _ (image : Image) (out : Outputs) where
       grey-fits : {b : Bool} → (ltb (length out.grey) (length (greymap_of image)) || b) ≡ b
       grey-fits {b} = ap (λ (t : Bool). t || b) (le-ltb (length out.grey) (length (greymap_of image)) (omega (arith, long)))
 
-      pub text-short : length text' < n → observed (answers.Refused output_short) (outputs out.grey text') ≡ writing image out
+      pub text-short : length text' < n → observed (Err OutputShort) (outputs out.grey text') ≡ writing image out
       unfolding writing roomless
       text-short s =
           let m = p.answers in
           let stays : text' ≡ out.text = p.leaves ∙ sym (put-none out.text 0 (text_of image.lines) (omega arith)) in
-          ap (λ (t : List ℕ). observed (answers.Refused output_short) (outputs out.grey t)) stays
+          ap (λ (t : List ℕ). observed (Err OutputShort) (outputs out.grey t)) stays
           ∙ passed _ _ _ _ (sym e ∙ h) (picked _ _ _
           (grey-fits ∙ lt-ltb (length out.text) (length (text_of image.lines)) (omega arith)))
 
       pub both-written : {grey' : List ℕ} → n ≤ length text' → grey' ≡ written (greymap_of image) out.grey
-          → observed (answers.Lengths (lengths greymap_octets n)) (outputs grey' text') ≡ writing image out
+          → observed (Ok (lengths greymap_octets n)) (outputs grey' text') ≡ writing image out
       unfolding writing roomless
       both-written {grey'} s w =
           let m = p.answers in

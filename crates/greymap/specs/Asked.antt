@@ -1,6 +1,7 @@
 -- What the crate's private functions ask of their callers, and what they promise them.
-use Rattle.std.specs.Prelude.{ℕ, ◌≤◌, ◌≡◌, Bool, false, List, length}
+use Rattle.std.specs.Prelude.{ℕ, ◌≤◌, ◌≡◌, List, length, Option, Some, None}
 use Rattle.octets.specs.Parts.{put}
+use Rattle.octets.specs.Pick.{pick}
 use Rattle.image.specs.Line.{image_lines, Image, Room}
 use Rattle.greymap.specs.Picture.{greymap_octets, text_of}
 use Rattle.greymap.specs.Reading.{text_wrong, numbers_in}
@@ -15,10 +16,9 @@ pub record PutText (lines text : List ℕ) (n : ℕ) (text' : List ℕ) : Type 0
   pub answers : n ≡ length (text_of lines)
   pub leaves : text' ≡ put text 0 (text_of lines)
 
--- A text was found wrong, or its numbers were left in a list.
-pub record Listed (text : List ℕ) (wrong : Bool) (list : List ℕ) : Type 0 where
-  pub answers : wrong ≡ text_wrong text
-  pub leaves : wrong ≡ false → list ≡ numbers_in text
+-- What is read of a text: its numbers, unless it is wrong.
+abbrev pub listed : List ℕ → Option (List ℕ)
+listed text = pick (text_wrong text) None (Some (numbers_in text))
 
 -- The numbers of an image's lines, and a whole greymap.
 pub record Picture (list grey : List ℕ) : Type 0 where

@@ -1,3 +1,4 @@
+pub mod Answers
 pub mod Picture
 pub mod Outcome
 pub mod Writing

@@ -1,21 +1,20 @@
 -- Document 02, M-114: the reader.
-use Rattle.std.specs.Prelude.{ℕ, ◌≡◌, Bool, false, not, ◌||◌, ◌&&◌, List, [], ◌∷◌, length, take, drop, eqb}
+use Rattle.std.specs.Prelude.{ℕ, ◌≡◌, Bool, false, not, ◌||◌, ◌&&◌, List, [], ◌∷◌, length, take, drop, eqb, Ok, Err}
 use Rattle.octets.specs.Parts.{part, written}
 use Rattle.octets.specs.Pick.{pick}
 use Rattle.octets.specs.Same.{same}
-use Rattle.answer.specs.Told.{Told, accept, refuse}
+use Rattle.answer.specs.Told.{Told, accept, refuse_for}
 use Rattle.answer.specs.Refusals.{image_short, greymap, line_list, unnumbered_line}
 use Rattle.decimal.specs.Read.{numbers_of, numbers_wrong}
 use Rattle.image.specs.Line.{line_pixels, image_lines, image_octets, Image, image_of}
 use Rattle.greymap.specs.Outcome.{Outcome, accepted, refused, Leaves}
 use Rattle.greymap.specs.Picture.{header, header_octets, greymap_octets, newline, blank, short}
-use Rattle.greymap.specs.declared.PictureRead.{PictureRead}
-use Rattle.greymap.specs.declared.PictureRead.TheVariants as answers
+use Rattle.greymap.specs.Answers.{PictureRead}
 
 -- An answer tells nothing but the refusal.
 abbrev pub told : PictureRead → Told (Unit {0})
-told answers.Read = accept tt
-told (answers.Refused n) = refuse tt n
+told (Ok u) = accept u
+told (Err n) = refuse_for tt n
 
 abbrev pub observed : PictureRead → Image → Outcome (Unit {0}) Image
 observed answer image = record { answer = told answer; lent = image }

@@ -1,15 +1,14 @@
 -- Document 02, M-114: the writer.
-use Rattle.std.specs.Prelude.{ℕ, ◌≡◌, Bool, ◌||◌, List, length, ltb}
+use Rattle.std.specs.Prelude.{ℕ, ◌≡◌, Bool, ◌||◌, List, length, ltb, Ok, Err}
 use Rattle.octets.specs.Parts.{written}
 use Rattle.octets.specs.Pick.{pick}
-use Rattle.answer.specs.Told.{Told, accept, refuse}
+use Rattle.answer.specs.Told.{Told, accept, refuse_for}
 use Rattle.answer.specs.Refusals.{image_short, output_short}
 use Rattle.image.specs.Line.{Image}
 use Rattle.greymap.specs.Outcome.{Outcome, accepted, refused, Leaves}
 use Rattle.greymap.specs.Picture.{greymap_of, text_of, short}
 use Rattle.greymap.specs.declared.Lengths.{Lengths}
-use Rattle.greymap.specs.declared.PictureWritten.{PictureWritten}
-use Rattle.greymap.specs.declared.PictureWritten.TheVariants as answers
+use Rattle.greymap.specs.Answers.{PictureWritten}
 
 -- The two lent outputs: for the greymap, and for the text of the line numbers.
 pub record Outputs : Type 0 where
@@ -24,8 +23,8 @@ lengths grey text = record { grey = grey; text = text }
 
 -- An answer tells both lengths, or the refusal and the lengths 0.
 abbrev pub told : PictureWritten → Told Lengths
-told (answers.Lengths l) = accept l
-told (answers.Refused n) = refuse (lengths 0 0) n
+told (Ok l) = accept l
+told (Err n) = refuse_for (lengths 0 0) n
 
 abbrev pub observed : PictureWritten → Outputs → Outcome Lengths Outputs
 observed answer out = record { answer = told answer; lent = out }

@@ -7,9 +7,9 @@ ghost use Rattle.image.specs.Line.{image_lines, image_of};
 ghost use Rattle.greymap.specs.Picture.{line_shown, greymap_of, short};
 ghost use Rattle.greymap.specs.Writing.{outputs, Writes};
 ghost use Rattle.greymap.specs.Reading.{greymap_wrong, pixels_in, unnumbered_wrong, Reads};
-ghost use Rattle.greymap.specs.Asked.{Drawable, PutText, Listed, Picture};
+ghost use Rattle.greymap.specs.Asked.{Drawable, PutText, listed, Picture};
 
-use decimal::NumberRead;
+use answer::Reason;
 use report::Line;
 
 // The octets that a greymap starts with.
@@ -30,38 +30,29 @@ pub struct Lengths {
     pub text: usize,
 }
 
-// What writing answers: both lengths, or the refusal's number.
-#[derive(Clone, Copy)]
-pub enum PictureWritten {
-    Lengths(Lengths),
-    Refused(u16),
-}
-
-// What reading answers: that both were read, or the refusal's number.
-#[derive(Clone, Copy)]
-pub enum PictureRead {
-    Read,
-    Refused(u16),
-}
-
 // Writes an image as a greymap, lines numbered 0 as 0, and its line numbers as text, at the start of the lent outputs.
 // Refusals 40 and 50. Beyond the lengths answered, and on a refusal, the outputs stay.
-pub fn write(image: &[u8], lines: &[u32], grey: &mut [u8], text: &mut [u8]) -> PictureWritten
+pub fn write(
+    image: &[u8],
+    lines: &[u32],
+    grey: &mut [u8],
+    text: &mut [u8],
+) -> Result<Lengths, Reason>
     ensures { Writes (image_of image.now lines.now) (outputs grey.old text.old) result
         (outputs grey.new text.new) }
 {
     if short(image, lines) {
-        return PictureWritten::Refused(answer::IMAGE_SHORT);
+        return Err(Reason::ImageShort);
     }
     if grey.len() < OCTETS {
-        return PictureWritten::Refused(answer::OUTPUT_SHORT);
+        return Err(Reason::OutputShort);
     }
     let n = put_text(lines, text);
     if text.len() < n {
-        return PictureWritten::Refused(answer::OUTPUT_SHORT);
+        return Err(Reason::OutputShort);
     }
     draw(image, lines, grey);
-    PictureWritten::Lengths(Lengths {
+    Ok(Lengths {
         grey: OCTETS,
         text: n,
     })
@@ -69,26 +60,23 @@ pub fn write(image: &[u8], lines: &[u32], grey: &mut [u8], text: &mut [u8]) -> P
 
 // Reads a greymap and the text of its line numbers into the start of a lent image and list.
 // Refusals 40, 80, 81 and 82. Beyond the image, and on a refusal, nothing lent changes.
-pub fn read(grey: &[u8], text: &[u8], image: &mut [u8], lines: &mut [u32]) -> PictureRead
+pub fn read(grey: &[u8], text: &[u8], image: &mut [u8], lines: &mut [u32]) -> Result<(), Reason>
     ensures { Reads grey.now text.now (image_of image.old lines.old) result
         (image_of image.new lines.new) }
 {
     if short(image, lines) {
-        return PictureRead::Refused(answer::IMAGE_SHORT);
+        return Err(Reason::ImageShort);
     }
     if greymap_wrong(grey) {
-        return PictureRead::Refused(answer::GREYMAP);
+        return Err(Reason::Greymap);
     }
-    let mut list = [0u32; image::LINES];
-    if text_wrong(text, &mut list) {
-        return PictureRead::Refused(answer::LINE_LIST);
-    }
+    let list = numbers_in(text).ok_or(Reason::LineList)?;
     if unnumbered_wrong(&list, grey) {
-        return PictureRead::Refused(answer::UNNUMBERED_LINE);
+        return Err(Reason::UnnumberedLine);
     }
     octets::put(image, 0, octets::part(grey, PIXELS, image::OCTETS));
-    put_numbers(&list, lines);
-    PictureRead::Read
+    lines[..image::LINES].copy_from_slice(&list);
+    Ok(())
 }
 
 // Refusal 40: image or line list too short.
@@ -115,8 +103,7 @@ fn draw(image: &[u8], lines: &[u32], grey: &mut [u8])
     ensures { grey.new ≡ written (greymap_of (image_of image.now lines.now)) grey.old }
 {
     octets::put(grey, 0, &HEADER);
-    let mut n = 0;
-    while n < image::LINES {
+    for n in 0..image::LINES {
         let at = Line::PIXELS * n;
         draw_line(
             lines[n],
@@ -124,7 +111,6 @@ fn draw(image: &[u8], lines: &[u32], grey: &mut [u8])
             grey,
             PIXELS + at,
         );
-        n += 1;
     }
 }
 
@@ -147,22 +133,21 @@ fn greymap_wrong(grey: &[u8]) -> bool
     (grey.len() != OCTETS) | !known
 }
 
-// Refusal 81: not 120 lines with a number each; else the numbers are left in list.
-fn text_wrong(text: &[u8], list: &mut [u32]) -> bool
-    requires { length list.old ≡ image_lines }
-    ensures { Listed text.now result list.new }
+// The numbers that a text gives 120 lines; none if it is another text, refusal 81.
+fn numbers_in(text: &[u8]) -> Option<[u32; image::LINES]>
+    ensures { result ≡ listed text.now }
 {
+    let mut list = [0u32; image::LINES];
     let mut at = 0;
-    let mut i = 0;
-    while i < image::LINES {
-        let NumberRead::Read(n, next) = decimal::read(text, at, b'\n') else {
-            return true;
-        };
-        list[i] = n;
+    for number in list.iter_mut() {
+        let (n, next) = decimal::read(text, at, b'\n')?;
+        *number = n;
         at = next;
-        i += 1;
     }
-    at < text.len()
+    if at < text.len() {
+        return None;
+    }
+    Some(list)
 }
 
 // Refusal 82: a line numbered 0 with a pixel other than 0.
@@ -171,25 +156,11 @@ fn unnumbered_wrong(list: &[u32], grey: &[u8]) -> bool
     ensures { result ≡ unnumbered_wrong list.now (pixels_in grey.now) }
 {
     let blank = [0u8; Line::PIXELS];
-    let mut n = 0;
-    while n < image::LINES {
+    for (n, &number) in list.iter().enumerate() {
         let pixels = octets::part(grey, PIXELS + Line::PIXELS * n, Line::PIXELS);
-        if (list[n] == 0) & !octets::same(pixels, &blank) {
+        if (number == 0) & !octets::same(pixels, &blank) {
             return true;
         }
-        n += 1;
     }
     false
-}
-
-// Puts numbers at the start of a list.
-fn put_numbers(list: &[u32], lines: &mut [u32])
-    requires { length list.now ≤ length lines.old }
-    ensures { lines.new ≡ written list.now lines.old }
-{
-    let mut i = 0;
-    while i < list.len() {
-        lines[i] = list[i];
-        i += 1;
-    }
 }

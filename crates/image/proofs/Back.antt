@@ -1,4 +1,5 @@
 -- A line that the report's writer gave is placed, and what was placed is what the writer gives.
+use Rattle.std.specs.Prelude.{Ok}
 use Prim.Native.Nat.{ℕ}
 use native.Mathlib.Omega.{arith}
 use mathlib.Core.Path.{◌≡◌, refl, sym, ap, ◌∙◌}
@@ -19,7 +20,6 @@ use Rattle.report.specs.declared.Report.{Report}
 use Rattle.image.specs.Line.{Image, line_of, placed}
 use Rattle.image.specs.Placing.{Outcome, observed, refused, outcome, reported, brought, placing}
 use Rattle.image.specs.Back.{line_report, PlacesOctets}
-use Rattle.image.specs.declared.Placed.TheVariants as answers
 use Rattle.image.proofs.Told.{observed_apart}
 use Rattle.report.specs.declared.Line.{Line as ReportLine}
 
@@ -32,7 +32,7 @@ places-octets p l pixels arrival before answer after right ready free h =
     let s : List ℕ = report_octets (line_report p l) (pixels ∷ []) in
     let back = reads-back (line_report p l) (pixels ∷ []) right in
     let row : pixels_of s ≡ pixels = head_of _ _ back.parts in
-    let o : outcome s arrival l.image before ≡ observed (answers.Line l.line) (placed before (line_of l.line pixels arrival)) =
+    let o : outcome s arrival l.image before ≡ observed (Ok l.line) (placed before (line_of l.line pixels arrival)) =
     simp (
       le-ltb _ _ ready.room.pixels,
       le-ltb _ _ ready.room.lines,
@@ -47,7 +47,7 @@ places-octets p l pixels arrival before answer after right ready free h =
 -- what was left was placed, and not refused
 module _ (packet : List ℕ) (arrival wanted n : ℕ) (before after : Image) where
   abbrev pub line_left : Outcome
-  line_left = observed (answers.Line n) after
+  line_left = observed (Ok n) after
 
   no_refusal : (m : ℕ) → refused m before ≡ line_left → ⊥
   no_refusal m e = refuse_or_accept (ap (λ (o : Outcome). o.answer) e)

@@ -1,4 +1,5 @@
 -- Laws that the proof of `place` cites: its answers, one for each end.
+use Rattle.std.specs.Prelude.{Ok, Err}
 use Prim.Native.Nat.{ℕ}
 use mathlib.Core.Path.{◌≡◌, refl, sym, ap, subst, ◌∙◌}
 use mathlib.Core.List.{List, [], ◌∷◌}
@@ -9,17 +10,18 @@ use denote.Enum.Declared.{tag_of}
 use borrow.Author.Tests.{eq-eqb, ne_eqb}
 use Rattle.octets.specs.Pick.{pick}
 use Rattle.octets.proofs.Choices.{picked, passed}
-use Rattle.answer.specs.Told.{accept}
+use Rattle.answer.specs.Told.{Told, accept, refuse_for, octet_of}
+use Rattle.answer.specs.declared.Reason.{Reason}
 use Rattle.answer.specs.Refusals.{not_line, image_other, line_held}
-use Rattle.report.specs.Report.{read_report, pixels_of}
+use Rattle.report.specs.Report.{no_report, read_report, pixels_of}
+use Rattle.report.proofs.Tells.{no-octet}
 use Rattle.report.specs.declared.Content.{Content}
 use Rattle.report.specs.declared.Content.TheVariants as content
 use Rattle.report.specs.declared.Report.{Report}
-use Rattle.report.specs.declared.ReportRead.{ReportRead}
-use Rattle.report.specs.declared.ReportRead.TheVariants as read
+use Rattle.report.specs.Answers.{ReportRead}
 use Rattle.report.specs.contracts.Content.{the_type}
 use Rattle.image.specs.Line.{Image, Line, line_of, held_otherwise, placed, Fits}
-use Rattle.image.specs.Placing.{Outcome, refused, placing, brought, reported}
+use Rattle.image.specs.Placing.{Outcome, observed, refused, placing, brought, reported}
 use Rattle.image.specs.Asked.{LineFits, Brings}
 use Rattle.report.specs.Report.{told as report-told}
 use Rattle.report.specs.declared.Line.{Line as ReportLine}
@@ -65,11 +67,14 @@ module _ (packet : List ℕ) (arrival wanted : ℕ) (image : Image) where
 
 -- x is what the report's reader gave
 module _ (packet : List ℕ) (arrival wanted : ℕ) (image : Image) {x : ReportRead} (e : report-told x ≡ read_report packet) where
-  pub report-accepted : {r : Report} {o : Outcome} → x ≡ read.Report r → o ≡ brought packet arrival wanted image r.content
+  pub report-accepted : {r : Report} {o : Outcome} → x ≡ Ok r → o ≡ brought packet arrival wanted image r.content
       → o ≡ reported packet arrival wanted image (read_report packet)
   unfolding reported pick
   report-accepted k q = simp (sym e ∙ ap report-told k) q
 
-  pub report-refused : {n : ℕ} → x ≡ read.Refused n → refused n image ≡ reported packet arrival wanted image (read_report packet)
+  pub report-refused : {n : Reason} → x ≡ Err n → observed (Err n) image ≡ reported packet arrival wanted image (read_report packet)
   unfolding reported pick
-  report-refused k = simp (sym e ∙ ap report-told k)
+  report-refused {n} k =
+      let told : read_report packet ≡ refuse_for no_report n = sym e ∙ ap report-told k in
+      let octet : octet_of n ≡ 0 = sym (ap (λ (t : Told Report). t.octet) told) ∙ no-octet packet in
+      simp (told, octet)

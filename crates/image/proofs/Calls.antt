@@ -1,4 +1,5 @@
 -- Demand 2 over the calls `place`, and `Line::write`, `Report::read` and `Line::pixels` of report, by the contracts that Rattle generates.
+use Rattle.std.specs.Prelude.{Ok}
 use Prim.Native.Nat.{ℕ}
 use mathlib.Core.Path.{◌≡◌, sym, ap, subst, ◌∙◌}
 use mathlib.Core.List.{List, [], ◌∷◌}
@@ -10,14 +11,13 @@ use Rattle.report.specs.Report.{read_report, pixels_of}
 use Rattle.report.specs.declared.Content.{Content}
 use Rattle.report.specs.declared.Content.TheVariants as content
 use Rattle.report.specs.declared.Report.{Report}
-use Rattle.report.specs.declared.ReportRead.TheVariants as read
 use Rattle.report.proofs.Told.{told_apart}
 use Rattle.report.proofs.Calls.{format, calls_back}
 use Rattle.report.proofs.Calls as report
 use Rattle.image.specs.Line.{Image, image_of, line_of, placed}
 use Rattle.image.specs.Placing.{Places, outcome}
 use Rattle.image.specs.Back.{line_report, PlacesWritten, WritesPlaced}
-use Rattle.image.specs.declared.Placed.{Placed}
+use Rattle.image.specs.Answers.{Placed}
 use Rattle.image.proofs.Back.{head_of, places-octets, placed-line}
 use Rattle.image.proofs.place.Kinds as kplace
 use Rattle.image.proofs.place.Reads as rplace
@@ -55,7 +55,7 @@ writes-placed packet arrival wanted n before after q octet h k =
     let line : Report = line_report r.packet l.fields in
     let e : read_report packet ≡ accept line =
     m.0 ∙ ap (λ (c : Content). accept (record { packet = r.packet; content = c })) l.content in
-    let is : q ≡ read.Report line = told_apart q (read.Report line) (report.reads k ∙ e) in
+    let is : q ≡ Ok line = told_apart q (Ok line) (report.reads k ∙ e) in
     record {
       packet_fields = r.packet;
       line_fields = l.fields;

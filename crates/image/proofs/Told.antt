@@ -1,16 +1,16 @@
 -- No two answers, with what they leave, are told alike.
+use Rattle.std.specs.Prelude.{Ok, Err}
 use mathlib.Core.Path.{◌≡◌, ap}
-use Rattle.answer.proofs.Told.{same-fields, same-refusal, accept_or_refuse, refuse_or_accept}
+use Rattle.answer.proofs.Told.{same-fields, same-reason, accept_or_refuse, refuse_or_accept}
 use Rattle.image.specs.Line.{Image}
 use Rattle.image.specs.Placing.{told, Outcome, observed}
-use Rattle.image.specs.declared.Placed.{Placed}
-use Rattle.image.specs.declared.Placed.TheVariants.{Line, Refused}
+use Rattle.image.specs.Answers.{Placed}
 
 pub told_apart : (x y : Placed) → told x ≡ told y → x ≡ y
-told_apart (Line n) (Line m) h = ap Line (same-fields h)
-told_apart (Refused n) (Refused m) h = ap Refused (same-refusal h)
-told_apart (Line n) (Refused m) h = accept_or_refuse h
-told_apart (Refused n) (Line m) h = refuse_or_accept h
+told_apart (Ok n) (Ok m) h = ap Ok (same-fields h)
+told_apart (Err n) (Err m) h = ap Err (same-reason n m h)
+told_apart (Ok n) (Err m) h = accept_or_refuse h
+told_apart (Err n) (Ok m) h = refuse_or_accept h
 
 -- the answer, and the image with its list, of an outcome
 pub observed_apart : {x y : Placed} {i j : Image} → observed x i ≡ observed y j → ◌≡◌ {A = Placed × Image} (x, i) (y, j)

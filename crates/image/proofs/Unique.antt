@@ -2,7 +2,7 @@
 use mathlib.Core.Path.{sym, ◌∙◌}
 use Rattle.octets.specs.Unique.{Fixes}
 use Rattle.image.specs.Line.{Image, image_of}
-use Rattle.image.specs.declared.Placed.{Placed}
+use Rattle.image.specs.Answers.{Placed}
 use Rattle.image.proofs.Told.{observed_apart}
 use Rattle.image.proofs.place.Kinds as kplace
 use Rattle.image.proofs.place.Reads as rplace

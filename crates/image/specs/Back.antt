@@ -1,20 +1,18 @@
 -- Demand 2 for image lines: a line that the report's writer gave is placed, and what was placed is what the writer gives. (With the
 -- generated contracts: proofs/Calls.)
-use Rattle.std.specs.Prelude.{ℕ, ◌≤◌, ◌<◌, ◌≡◌, false, List, [], ◌∷◌, length, take}
+use Rattle.std.specs.Prelude.{ℕ, ◌≤◌, ◌<◌, ◌≡◌, false, List, [], ◌∷◌, length, take, Ok}
 use Rattle.octets.specs.Numbers.{at}
 use Rattle.answer.specs.Back.{Format}
 use Rattle.answer.specs.Writer.{Gave}
-use Rattle.answer.specs.declared.Written.{Written}
-use Rattle.answer.specs.declared.Written.TheVariants.{Length}
+use Rattle.answer.specs.Writer.{Written}
 use Rattle.packet.specs.declared.Packet.{Packet}
 use Rattle.report.specs.Write.{report_wrong, report_octets}
 use Rattle.report.specs.declared.Report.{Report}
-use Rattle.report.specs.declared.ReportRead.{ReportRead}
+use Rattle.report.specs.Answers.{ReportRead}
 use Rattle.report.specs.declared.Content.TheVariants as content
 use Rattle.image.specs.Line.{Image, Room, line_of, held_otherwise, placed}
 use Rattle.image.specs.Placing.{Places}
-use Rattle.image.specs.declared.Placed.{Placed}
-use Rattle.image.specs.declared.Placed.TheVariants as answers
+use Rattle.image.specs.Answers.{Placed}
 use Rattle.report.specs.declared.Line.{Line as ReportLine}
 
 abbrev pub line_report : Packet → ReportLine → Report
@@ -27,7 +25,7 @@ pub record Ready (image : Image) (arrival : ℕ) : Type 0 where
 
 -- `place` answers this line, and leaves it placed.
 pub record PlacedAs (before : Image) (line : ℕ) (pixels : List ℕ) (arrival : ℕ) (answer : Placed) (after : Image) : Type 0 where
-  pub answers : answer ≡ answers.Line line
+  pub answers : answer ≡ Ok line
   pub leaves : after ≡ placed before (line_of line pixels arrival)
 
 -- What the writer gives for a line is placed, if the line is not held with other pixels and its image is wanted.
@@ -44,7 +42,7 @@ module _ (f : Format Report (List (List ℕ)) ReportRead) (PlacesBy : List ℕ �
   abbrev pub PlacesWritten : Type 0
   PlacesWritten =
       (p : Packet) (l : ReportLine) (pixels out : List ℕ) (n : ℕ) (out' : List ℕ) (arrival : ℕ) (before : Image) (answer : Placed)
-      (after : Image) → f.Writes (line_report p l) (pixels ∷ []) out (Length n) out' → Ready before arrival
+      (after : Image) → f.Writes (line_report p l) (pixels ∷ []) out (Ok n) out' → Ready before arrival
       → held_otherwise before l.line pixels ≡ false → PlacesBy (take n out') arrival l.image before answer after
       → PlacedAs before l.line pixels arrival answer after
 
@@ -68,5 +66,5 @@ module _ (f : Format Report (List (List ℕ)) ReportRead) (PlacesBy : List ℕ �
   abbrev pub WritesPlaced : Type 0
   WritesPlaced =
       (packet : List ℕ) (arrival wanted n : ℕ) (before after : Image) (q : ReportRead) → ((i : ℕ) → at packet i < 256)
-      → PlacesBy packet arrival wanted before (answers.Line n) after → f.Reads packet q
+      → PlacesBy packet arrival wanted before (Ok n) after → f.Reads packet q
       → LineOf packet arrival wanted n before after q

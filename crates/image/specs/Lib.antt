@@ -1,3 +1,4 @@
+pub mod Answers
 pub mod Line
 pub mod Placing
 pub mod Asked

@@ -1,20 +1,19 @@
 -- Document 01, 'Image and sequence': placing, with its refusals.
-use Rattle.std.specs.Prelude.{ℕ, ◌≡◌, false, not, ◌||◌, List, length, ltb, eqb}
+use Rattle.std.specs.Prelude.{ℕ, ◌≡◌, false, not, ◌||◌, List, length, ltb, eqb, Ok, Err}
 use Rattle.octets.specs.Pick.{pick}
-use Rattle.answer.specs.Told.{Told, accept, refuse}
+use Rattle.answer.specs.Told.{Told, accept, refuse, refuse_for}
 use Rattle.answer.specs.Refusals.{image_short, no_arrival, not_line, image_other, line_held}
 use Rattle.report.specs.Report.{read_report, pixels_of}
 use Rattle.report.specs.declared.Report.{Report}
 use Rattle.report.specs.declared.Content.{Content}
 use Rattle.report.specs.declared.Content.TheVariants as content
 use Rattle.image.specs.Line.{image_lines, image_octets, Image, Line, line_of, held_otherwise, placed}
-use Rattle.image.specs.declared.Placed.{Placed}
-use Rattle.image.specs.declared.Placed.TheVariants as answers
+use Rattle.image.specs.Answers.{Placed}
 
 -- An answer tells the line, or the refusal and 0.
 abbrev pub told : Placed → Told ℕ
-told (answers.Line n) = accept n
-told (answers.Refused n) = refuse 0 n
+told (Ok n) = accept n
+told (Err n) = refuse_for 0 n
 
 -- What the call answers, and the image with its line numbers as it leaves them: as it is to be, and as a caller observes it.
 pub record Outcome : Type 0 where

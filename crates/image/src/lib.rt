@@ -6,20 +6,14 @@ ghost use Rattle.image.specs.Line.{image_lines, image_of, line_of, held_otherwis
 ghost use Rattle.image.specs.Placing.{observed, placing, brought, Places};
 ghost use Rattle.image.specs.Asked.{Brings};
 
-use report::{Content, Line, Report, ReportRead};
+use answer::Reason;
+use report::{Content, Line, Report};
 
 // How many lines an image has: the least length of the list that is lent for their numbers.
 pub const LINES: usize = 120;
 
 // How many octets an image has: the least length of what is lent for its pixels.
 pub const OCTETS: usize = LINES * Line::PIXELS;
-
-// What placing answers: which line was placed, or the refusal's number.
-#[derive(Clone, Copy)]
-pub enum Placed {
-    Line(u8),
-    Refused(u16),
-}
 
 // The number of a line that is numbered held and comes again with this arrival number: the smaller of the two, 0 aside.
 fn number(held: u32, arrival: u32) -> u32
@@ -28,10 +22,7 @@ fn number(held: u32, arrival: u32) -> u32
     if held == 0 {
         return arrival;
     }
-    if arrival < held {
-        return arrival;
-    }
-    held
+    arrival.min(held)
 }
 
 // Refusal 42: line n is held, with other pixels.
@@ -56,17 +47,23 @@ fn lay(n: usize, pixels: &[u8], arrival: u32, image: &mut [u8], lines: &mut [u32
 }
 
 // Places a line, unless it is held with other pixels: refusal 42, and nothing lent changes.
-fn place_line(line: u8, pixels: &[u8], arrival: u32, image: &mut [u8], lines: &mut [u32]) -> Placed
+fn place_line(
+    line: u8,
+    pixels: &[u8],
+    arrival: u32,
+    image: &mut [u8],
+    lines: &mut [u32],
+) -> Result<u8, Reason>
     requires { Fits (image_of image.old lines.old) (line_of line pixels.now arrival) }
     ensures { observed result (image_of image.new lines.new) ≡ placing
         (image_of image.old lines.old) (line_of line pixels.now arrival) }
 {
     let n = line as usize;
     if held_otherwise(n, pixels, image, lines) {
-        return Placed::Refused(answer::LINE_HELD);
+        return Err(Reason::LineHeld);
     }
     lay(n, pixels, arrival, image, lines);
-    Placed::Line(line)
+    Ok(line)
 }
 
 // Places what a packet's report brings, if it is a line of the wanted image: else refusal 33, 41 or 42, and nothing lent changes.
@@ -77,16 +74,16 @@ fn bring(
     wanted: u16,
     image: &mut [u8],
     lines: &mut [u32],
-) -> Placed
+) -> Result<u8, Reason>
     requires { Brings content packet.now (image_of image.old lines.old) }
     ensures { observed result (image_of image.new lines.new) ≡ brought packet.now arrival wanted
         (image_of image.old lines.old) content }
 {
     let Content::Line(l) = content else {
-        return Placed::Refused(answer::NOT_LINE);
+        return Err(Reason::NotLine);
     };
     if l.image != wanted {
-        return Placed::Refused(answer::IMAGE_OTHER);
+        return Err(Reason::ImageOther);
     }
     place_line(l.line, l.pixels(packet), arrival, image, lines)
 }
@@ -99,21 +96,16 @@ pub fn place(
     wanted: u16,
     image: &mut [u8],
     lines: &mut [u32],
-) -> Placed
+) -> Result<u8, Reason>
     ensures { Places packet.now arrival wanted (image_of image.old lines.old) result
         (image_of image.new lines.new) }
 {
     if (image.len() < OCTETS) | (lines.len() < LINES) {
-        return Placed::Refused(answer::IMAGE_SHORT);
+        return Err(Reason::ImageShort);
     }
     if arrival == 0 {
-        return Placed::Refused(answer::NO_ARRIVAL);
+        return Err(Reason::NoArrival);
     }
-    match Report::read(packet) {
-        ReportRead::Report(report) => {
-            let content = report.content;
-            bring(content, packet, arrival, wanted, image, lines)
-        }
-        ReportRead::Refused(n) => Placed::Refused(n),
-    }
+    let report = Report::read(packet)?;
+    bring(report.content, packet, arrival, wanted, image, lines)
 }

@@ -2,7 +2,6 @@
 #![tactic(auto)]
 
 use counts::SequenceCount;
-use image::Placed;
 use records::{input, places, text};
 use sequence::Gap;
 
@@ -16,19 +15,19 @@ fn enter(list: &mut [u16], place: usize, entry: u16) {
 // The sequence gap, with the entry of the APID put into the list before.
 pub fn missing(c: &[u8], list: &mut [u16]) {
     let apid = input::word(c, places::APID);
-    enter(list, apid as usize, input::word(c, places::ENTRY));
+    enter(list, usize::from(apid), input::word(c, places::ENTRY));
     match sequence::missing(apid, SequenceCount(input::word(c, places::SEQUENCE)), list) {
-        Gap::Unknown => text::say(b"accepted missing unknown"),
-        Gap::Restart => text::say(b"accepted missing restart"),
-        Gap::Missing(n) => text::field(b"accepted missing ", n as u64),
-        Gap::Refused(n) => text::field(b"refusal ", n as u64),
+        Ok(Gap::Unknown) => text::say(b"accepted missing unknown"),
+        Ok(Gap::Restart) => text::say(b"accepted missing restart"),
+        Ok(Gap::Missing(n)) => text::field(b"accepted missing ", n as u64),
+        Err(reason) => text::field(b"refusal ", reason.number() as u64),
     }
     text::words(b" list", list, input::word(c, places::WORD));
 }
 
 // Where a line starts in an image.
 fn row(n: u8) -> usize {
-    188 * octets::wide(n)
+    188 * usize::from(n)
 }
 
 // Puts a held line, its number of the line, arrival number and pixels, into an image and its list.
@@ -37,7 +36,7 @@ fn hold(line: &[u8], image: &mut [u8], lines: &mut [u32]) {
         return;
     }
     octets::put(image, row(line[0]), octets::part(line, 5, 188));
-    let n = octets::wide(line[0]);
+    let n = usize::from(line[0]);
     if n < lines.len() {
         lines[n] = octets::four(line[1], line[2], line[3], line[4]);
     }
@@ -46,10 +45,8 @@ fn hold(line: &[u8], image: &mut [u8], lines: &mut [u32]) {
 // Puts the held lines of a case into the image.
 fn hold_all(c: &[u8], image: &mut [u8], lines: &mut [u32]) {
     let held = input::block(c, places::HELD);
-    let mut at: usize = 0;
-    while at < held.len() {
-        hold(octets::part(held, at, 193), image, lines);
-        at += 193;
+    for line in held.chunks(193) {
+        hold(line, image, lines);
     }
 }
 
@@ -66,10 +63,8 @@ pub fn place_in_order(c: &[u8], image: &mut [u8], lines: &mut [u32]) {
     let all = input::block(c, places::INPUT);
     let wanted = input::word(c, places::WANTED);
     text::say(b"accepted");
-    let mut at: usize = 0;
-    while at < all.len() {
-        place_next(octets::part(all, at, 256), wanted, image, lines);
-        at += 256;
+    for one in all.chunks(256) {
+        place_next(one, wanted, image, lines);
     }
     left(image, lines);
 }
@@ -80,10 +75,10 @@ fn place_next(one: &[u8], wanted: u16, image: &mut [u8], lines: &mut [u32]) {
         return;
     }
     let arrival = octets::four(one[0], one[1], one[2], one[3]);
-    let packet = octets::part(one, 5, octets::wide(one[4]));
+    let packet = octets::part(one, 5, usize::from(one[4]));
     match image::place(packet, arrival, wanted, image, lines) {
-        Placed::Line(n) => text::field(b" line ", n as u64),
-        Placed::Refused(n) => text::field(b" refusal ", n as u64),
+        Ok(n) => text::field(b" line ", n as u64),
+        Err(reason) => text::field(b" refusal ", reason.number() as u64),
     }
 }
 
@@ -98,11 +93,11 @@ fn placed(c: &[u8], image: &mut [u8], lines: &mut [u32]) {
         image,
         lines,
     ) {
-        Placed::Line(n) => {
+        Ok(n) => {
             text::field(b"accepted line ", n as u64);
             text::hex(b" pixels ", octets::part(image, row(n), 188));
         }
-        Placed::Refused(n) => text::field(b"refusal ", n as u64),
+        Err(reason) => text::field(b"refusal ", reason.number() as u64),
     }
 }
 

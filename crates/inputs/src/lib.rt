@@ -42,12 +42,10 @@ pub fn receiver(kind: &[u8], word: &[u8]) -> Receiver
     ensures { result ≡ receiver_of kind.now word.now }
 {
     if octets::same(kind, b"--kiss") {
-        let begun = Receiver::kiss(time(word));
-        return begun.receiver;
+        return Receiver::kiss(time(word)).receiver;
     }
     if octets::same(kind, b"--bits") {
-        let begun = Receiver::bits(time(word));
-        return begun.receiver;
+        return Receiver::bits(time(word)).receiver;
     }
     Receiver::recording()
 }
@@ -86,7 +84,7 @@ pub fn refused(rt: &HostRuntime, name: &[u8], i: usize) -> bool {
     let mut kind = [0u8; 8];
     let mut word = [0u8; 2];
     let n = self::word(rt, i, &mut kind);
-    let m = self::word(rt, std::num::wrapping_add_usize(i, 1), &mut word);
+    let m = self::word(rt, i.wrapping_add(1), &mut word);
     let refused = none_named(has_word(rt, i), &kind[..n], &word[..m]);
     if refused {
         tell(name);
@@ -109,6 +107,6 @@ pub fn by_words(rt: &HostRuntime, i: usize) -> Receiver {
     let mut kind = [0u8; 8];
     let mut word = [0u8; 2];
     let n = self::word(rt, i, &mut kind);
-    let m = self::word(rt, std::num::wrapping_add_usize(i, 1), &mut word);
+    let m = self::word(rt, i.wrapping_add(1), &mut word);
     receiver(&kind[..n], &word[..m])
 }

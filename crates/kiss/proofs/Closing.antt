@@ -5,7 +5,7 @@ use mathlib.Core.List.{List}
 use mathlib.Core.Bool.{true, false, ◌||◌}
 use lib.ListN.{length}
 use Rattle.octets.proofs.Choices.{picked, passed}
-use Rattle.answer.specs.Refusals as no
+use Rattle.answer.specs.declared.Reason.TheVariants.{Escape, TypeOctet}
 use Rattle.stretch.specs.declared.Found.{Found}
 use Rattle.stretch.specs.declared.Found.TheVariants.{Frame, Refused}
 use Rattle.kiss.specs.Reader.{scanned_by, outcome, tells, frame_length, sealed, closed}
@@ -19,11 +19,11 @@ told_by_lem {used = used} {f} kept e d =
     ap (λ (x : Scanned). outcome x kept) d ∙ ap (λ (x : Reader). outcome (scanned_by x used f) kept) e
 
 module _ (a : Reader) (used : ℕ) (kept : List ℕ) where
-  pub closes_18 : (a.wrong || a.escaping) ≡ true → tells (Refused no.escape) used kept ≡ closed a used kept
+  pub closes_18 : (a.wrong || a.escaping) ≡ true → tells (Refused Escape) used kept ≡ closed a used kept
   unfolding closed
   closes_18 h = picked _ _ _ h
 
-  pub closes_19 : (a.wrong || a.escaping) ≡ false → a.other ≡ true → tells (Refused no.type_octet) used kept ≡ closed a used kept
+  pub closes_19 : (a.wrong || a.escaping) ≡ false → a.other ≡ true → tells (Refused TypeOctet) used kept ≡ closed a used kept
   unfolding closed
   closes_19 h k = passed _ _ _ _ h (picked _ _ _ k)
 

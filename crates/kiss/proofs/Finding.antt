@@ -10,6 +10,7 @@ use lib.Dec.{eqb}
 use Rattle.octets.proofs.Choices.{picked, passed, picks}
 use Rattle.bits.specs.Rows.Order.{low_first}
 use Rattle.crc.specs.Check.{frame_check, octets_of}
+use Rattle.answer.specs.declared.Reason.{Reason}
 use Rattle.stretch.specs.Stretch.{Fits}
 use Rattle.stretch.specs.declared.Found.TheVariants.{Nothing, Frame, Refused}
 use Rattle.kiss.specs.Stream.{mark}
@@ -30,8 +31,8 @@ pub length-sealed : (n : ℕ) (kept : List ℕ) → length (sealed n kept) ≡ l
 unfolding sealed
 length-sealed n kept = length-sets kept n (octets_of low_first (frame_check (take n kept)))
 
-refusal-tells : (n : ℕ) → Refused n ≡ Nothing → ⊥
-refusal-tells n e = let z : ◌≡◌ {A = ℕ} 0 1 = cc in omega arith
+refusal-tells : (r : Reason) → Refused r ≡ Nothing → ⊥
+refusal-tells r e = let z : ◌≡◌ {A = ℕ} 0 1 = cc in omega arith
 
 frame-tells : (n : ℕ) → Frame n ≡ Nothing → ⊥
 frame-tells n e = let z : ◌≡◌ {A = ℕ} 0 1 = cc in omega arith

@@ -121,9 +121,9 @@ module _ {a : Standing} {w : List ℕ} {b : Standing} {i : ℕ} (t : Going a w b
         ∙ sym (t.same ∙ ap (λ (l : List ℕ). further_by i (scanned b l)) rest
         ∙ ap (further_by i) (sym (picked _ _ _ (eq-eqb _ _ e)) ∙ sym (picked _ _ _ y)))
 
-  pub ends : length w ≤ i → record { standing = b; used = i; found = Nothing } ≡ scanned a w
+  pub ends : i ≤ length w → length w ≤ i → record { standing = b; used = length w; found = Nothing } ≡ scanned a w
   unfolding scanned
-  ends h =
-      let e : i ≡ i + 0 = omega arith in
+  ends g h =
+      let e : length w ≡ i + 0 = omega arith in
       sym (t.same ∙ ap (λ (l : List ℕ). further_by i (scanned b l)) (drop_of_length-le w h)
       ∙ ap (λ (n : ℕ). record { standing = b; used = n; found = Nothing }) (sym e))

@@ -4,7 +4,7 @@ use Rattle.std.proofs.lemmas.List.Edits.{sets}
 use Rattle.octets.specs.Pick.{pick}
 use Rattle.bits.specs.Rows.Order.{low_first}
 use Rattle.crc.specs.Check.{frame_check, octets_of}
-use Rattle.answer.specs.Refusals as no
+use Rattle.answer.specs.declared.Reason.TheVariants.{Escape, TypeOctet}
 use Rattle.stretch.specs.Stretch.{Stretch, most_kept, clipped, told, Fits}
 use Rattle.stretch.specs.declared.Found.{Found}
 use Rattle.stretch.specs.declared.Found.TheVariants.{Nothing, Frame, Refused}
@@ -85,8 +85,8 @@ tells f used kept = record { standing = standing (begun true) kept; used = used;
 -- 18, then 19, else the frame.
 unfoldable pub closed : Reader → ℕ → List ℕ → Outcome
 closed a used kept =
-    pick (a.wrong || a.escaping) (tells (Refused no.escape) used kept)
-    (pick a.other (tells (Refused no.type_octet) used kept)
+    pick (a.wrong || a.escaping) (tells (Refused Escape) used kept)
+    (pick a.other (tells (Refused TypeOctet) used kept)
     (tells (Frame (min (frame_length a.count + 2) (length kept))) used (sealed (frame_length a.count) kept)))
 
 -- ---- all octets

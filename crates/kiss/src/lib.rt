@@ -5,6 +5,7 @@ ghost use Rattle.std.specs.Prelude.{◌≡◌, ◌+◌, ◌≤◌, min, length};
 ghost use Rattle.kiss.specs.Reader.{standing, reader, fresh, meant, misplaced, frame_length, sealed, scanned_by, outcome, closed};
 ghost use Rattle.kiss.specs.Reader.{scanned};
 
+use answer::Reason;
 use stretch::{Found, KEPT};
 
 // Between frames.
@@ -61,13 +62,7 @@ fn misplaced(x: u8) -> bool
 fn frame_length(count: usize) -> usize
     ensures { result ≡ frame_length count }
 {
-    if count == 0 {
-        return 0;
-    }
-    if KEPT < count {
-        return KEPT;
-    }
-    count - 1
+    count.saturating_sub(1).min(KEPT)
 }
 
 // The check of the first n octets behind them, as far as there is room; how many they are with it.
@@ -134,10 +129,10 @@ impl Reader {
     {
         let reader = Reader::at(true, false, false, false, 0);
         if self.wrong | self.escaping {
-            return reader.tells(used, Found::Refused(answer::ESCAPE));
+            return reader.tells(used, Found::Refused(Reason::Escape));
         }
         if self.other {
-            return reader.tells(used, Found::Refused(answer::TYPE_OCTET));
+            return reader.tells(used, Found::Refused(Reason::TypeOctet));
         }
         let n = seal(kept, frame_length(self.count));
         reader.tells(used, Found::Frame(n))
@@ -153,13 +148,11 @@ impl Reader {
         let mut wrong = self.wrong;
         let mut other = self.other;
         let mut count = self.count;
-        let mut i = 0;
-        while i < window.len() {
-            let mut x = window[i];
-            i += 1;
+        for (i, &octet) in window.iter().enumerate() {
+            let mut x = octet;
             if x == MARK {
                 if marked & (wrong | escaping | (count != 0)) {
-                    return Reader::at(marked, escaping, wrong, other, count).close(i, kept);
+                    return Reader::at(marked, escaping, wrong, other, count).close(i + 1, kept);
                 }
                 marked = true;
                 escaping = false;
@@ -186,6 +179,6 @@ impl Reader {
                 count += 1;
             }
         }
-        Reader::at(marked, escaping, wrong, other, count).tells(i, Found::Nothing)
+        Reader::at(marked, escaping, wrong, other, count).tells(window.len(), Found::Nothing)
     }
 }

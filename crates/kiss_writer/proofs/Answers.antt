@@ -1,4 +1,5 @@
 -- What an export answers and leaves, at each of its ends.
+use Rattle.std.specs.Prelude.{Ok, Err}
 use Prim.Native.Nat.{ℕ, ◌≤◌, ◌<◌}
 use mathlib.Core.Path.{◌≡◌, refl, sym, ap, ◌∙◌}
 use mathlib.Core.Bool.{Bool, true, false, false≢true}
@@ -9,9 +10,9 @@ use borrow.Author.Tests.{lt-ltb, le-ltb, eqb-true, not-false}
 use Rattle.octets.specs.Pick.{pick}
 use Rattle.octets.specs.Parts.{written}
 use Rattle.octets.proofs.Choices.{picked, passed}
-use Rattle.answer.specs.Told.{Told, accept, refuse, refuse_at, plain}
-use Rattle.answer.specs.Refusals as no
-use Rattle.answer.specs.declared.Refusal.{Refusal}
+use Rattle.answer.specs.Told.{Told, accept, refuse_at, refuse_for}
+use Rattle.answer.specs.declared.Reason.{Reason}
+use Rattle.answer.specs.declared.Reason.TheVariants.{TimeLength, FieldRange, OutputShort}
 use Rattle.frame.specs.Limits.{longest_time}
 use Rattle.frame.specs.Frame.{read_frame}
 use Rattle.frame.proofs.Tells.{read-tells}
@@ -20,8 +21,7 @@ use Rattle.rules.specs.Packets.{cut, total}
 use Rattle.lengths.specs.Lengths.{lengths_wrong}
 use Rattle.kiss_writer.specs.Export.{stream_of, told, first_bad, exporting, Exports}
 use Rattle.kiss_writer.specs.Asked.{Checked, Frames}
-use Rattle.kiss_writer.specs.declared.Exported.{Exported}
-use Rattle.kiss_writer.specs.declared.Exported.TheVariants.{Length, Refused}
+use Rattle.kiss_writer.specs.Answers.{Exported}
 
 -- ---- no frame is bad
 
@@ -49,46 +49,41 @@ adds_up ns n e h = eqb-true (total ns) n (not-false _ (sym e ∙ h))
 -- ---- the ends
 
 module _ (t : ℕ) (d ns out : List ℕ) where
-  refuses : {q : Refusal} → refuse_at 0 q.number q.octet ≡ exporting t d ns out → Exports t d ns out (Refused q) out
+  refuses : {q : Reason} → refuse_for 0 q ≡ exporting t d ns out → Exports t d ns out (Err q) out
   refuses e = record { answers = e; leaves = passed _ _ _ _ refl refl }
 
-  of_plain : {q : Refusal} {n : ℕ} → q ≡ plain n → refuse_at {A = ℕ} 0 q.number q.octet ≡ refuse 0 n
-  of_plain e = ap (λ (q : Refusal). refuse_at {A = ℕ} 0 q.number q.octet) e
-
-  pub refuses_2 : {q : Refusal} → q ≡ plain no.time_length → longest_time < t → Exports t d ns out (Refused q) out
+  pub refuses_2 : longest_time < t → Exports t d ns out (Err TimeLength) out
   unfolding exporting
-  refuses_2 e h = refuses (of_plain e ∙ picked _ _ _ (lt-ltb _ _ h))
+  refuses_2 h = refuses (picked _ _ _ (lt-ltb _ _ h))
 
   module _ (h : t ≤ longest_time) where
-    pub refuses_51 : {q : Refusal} {b : Bool} → q ≡ plain no.field_range → b ≡ lengths_wrong ns (length d) → b ≡ true → Exports t d ns out
-        (Refused q) out
+    pub refuses_51 : {b : Bool} → b ≡ lengths_wrong ns (length d) → b ≡ true → Exports t d ns out (Err FieldRange) out
     unfolding exporting
-    refuses_51 e k w = refuses (of_plain e ∙ passed _ _ _ _ (le-ltb _ _ h) (picked _ _ _ (sym k ∙ w)))
+    refuses_51 k w = refuses (passed _ _ _ _ (le-ltb _ _ h) (picked _ _ _ (sym k ∙ w)))
 
     module _ {b : Bool} (k : b ≡ lengths_wrong ns (length d)) (w : b ≡ false) where
-      pub refuses-bad : {r : Exported} {q : Refusal} → told r ≡ first_bad t (cut d ns) → r ≡ Refused q → Exports t d ns out (Refused q) out
+      pub refuses-bad : {r : Exported} {q : Reason} → told r ≡ first_bad t (cut d ns) → r ≡ Err q → Exports t d ns out (Err q) out
       unfolding exporting
       refuses-bad {q = q} e f =
-          let g : refuse_at 0 q.number q.octet ≡ first_bad t (cut d ns) = ap told (sym f) ∙ e in
+          let g : refuse_for 0 q ≡ first_bad t (cut d ns) = ap told (sym f) ∙ e in
           refuses (g ∙ passed _ _ _ _ (le-ltb _ _ h)
           (passed _ _ _ _ (sym k ∙ w) (passed _ _ _ _ (ap (λ (r : Told ℕ). r.accepted) (sym g)) refl)))
 
-      module _ {r : Exported} {m : ℕ} (e : told r ≡ first_bad t (cut d ns)) (f : r ≡ Length m) where
+      module _ {r : Exported} {m : ℕ} (e : told r ≡ first_bad t (cut d ns)) (f : r ≡ Ok m) where
         none-bad : (first_bad t (cut d ns)).accepted ≡ true
         none-bad = ap (λ (r : Told ℕ). r.accepted) (sym e ∙ ap told f)
 
         pub frames-good : Frames d ns
         frames-good = record { adds = adds_up ns (length d) k w; checked = checked t (cut d ns) none-bad }
 
-        pub refuses_50 : {q : Refusal} → q ≡ plain no.output_short → length out < length (stream_of (cut d ns)) → Exports t d ns out
-            (Refused q) out
+        pub refuses_50 : length out < length (stream_of (cut d ns)) → Exports t d ns out (Err OutputShort) out
         unfolding exporting
-        refuses_50 i l =
-            refuses (of_plain i ∙ passed _ _ _ _ (le-ltb _ _ h)
+        refuses_50 l =
+            refuses (passed _ _ _ _ (le-ltb _ _ h)
             (passed _ _ _ _ (sym k ∙ w) (picked _ _ _ (lt-ltb _ _ l) ∙ picked _ _ _ none-bad)))
 
         pub writes : {n : ℕ} {out' : List ℕ} → length (stream_of (cut d ns)) ≤ length out
-            → (n ≡ length (stream_of (cut d ns))) × (out' ≡ written (stream_of (cut d ns)) out) → Exports t d ns out (Length n) out'
+            → (n ≡ length (stream_of (cut d ns))) × (out' ≡ written (stream_of (cut d ns)) out) → Exports t d ns out (Ok n) out'
         unfolding exporting
         writes l g =
             record {

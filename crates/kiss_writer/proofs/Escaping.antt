@@ -1,4 +1,6 @@
 -- Octets escaped one after another.
+use Rattle.std.specs.Prelude.{cond}
+use Rattle.std.specs.List.{filter}
 use Prim.Native.Nat.{ℕ, ◌+◌, ◌≤◌, ◌<◌}
 use mathlib.Core.Path.{◌≡◌, refl, sym, ap, subst, ◌∙◌}
 use mathlib.Core.Bool.{Bool, true, false, ◌||◌, true≢false, false≢true}
@@ -54,47 +56,20 @@ module _ (x : ℕ) where
 
 -- ---- how many are escaped
 
-pub record Counting (xs : List ℕ) (count i : ℕ) : Type 0 where
-  pub inside : i ≤ length xs
-  pub few : count ≤ i
-  pub even : length (escaped xs) ≡ i + count + length (escaped (drop i xs))
+abbrev pub doubled : ℕ → Bool
+doubled x = eqb x mark || eqb x escape
 
-pub counting_first : (xs : List ℕ) → Counting xs 0 0
-counting_first xs = record { inside = omega arith; few = omega arith; even = omega arith }
+one_more : (x : ℕ) (ys : List ℕ) → length (cond (doubled x) (x ∷ ys) ys) + 1 ≡ length (escaped_octet x) + length ys
+one_more x ys = go (doubled x) refl
+  where
+    go : (b : Bool) → doubled x ≡ b → length (cond (doubled x) (x ∷ ys) ys) + 1 ≡ length (escaped_octet x) + length ys
+    go true e = rw e (omega (arith, wide x e))
+    go false e = rw e (omega (arith, narrow x e))
 
-module _ {xs : List ℕ} {count i : ℕ} (t : Counting xs count i) where
-  pub counting_one : i < length xs → (eqb (get_or xs i 0) mark || eqb (get_or xs i 0) escape) ≡ true → Counting xs (count + 1) (i + 1)
-  counting_one h e =
-      record {
-        inside = omega arith;
-        few = omega (arith, t.few);
-        even = omega (
-          arith,
-          t.even,
-          ap length (escaped-more xs i h),
-          length-append (escaped_octet (get_or xs i 0))
-              (escaped (drop (i + 1) xs)),
-          wide (get_or xs i 0) e,
-        );
-      }
-
-  pub counting_none : i < length xs → (eqb (get_or xs i 0) mark || eqb (get_or xs i 0) escape) ≡ false → Counting xs count (i + 1)
-  counting_none h e =
-      record {
-        inside = omega arith;
-        few = omega (arith, t.few);
-        even = omega (
-          arith,
-          t.even,
-          ap length (escaped-more xs i h),
-          length-append (escaped_octet (get_or xs i 0))
-              (escaped (drop (i + 1) xs)),
-          narrow (get_or xs i 0) e,
-        );
-      }
-
-  pub counting_end : length xs ≤ i → length (escaped xs) ≡ length xs + count
-  counting_end h = omega (arith, t.inside, t.even, ap length (escaped-over xs i h))
+pub length-escaped : (xs : List ℕ) → length (escaped xs) ≡ length xs + length (filter doubled xs)
+length-escaped [] = refl
+length-escaped (x ∷ xs) =
+    omega (arith, length-append (escaped_octet x) (escaped xs), length-escaped xs, one_more x (filter doubled xs))
 
 -- ---- laid one after another, with a 0xC0 behind
 

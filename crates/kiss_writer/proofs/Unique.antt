@@ -7,7 +7,7 @@ use Rattle.octets.specs.Pick.{pick}
 use Rattle.octets.specs.Parts.{written}
 use Rattle.rules.specs.Packets.{cut}
 use Rattle.kiss_writer.specs.Export.{stream_of, told, Exports}
-use Rattle.kiss_writer.specs.declared.Exported.{Exported}
+use Rattle.kiss_writer.specs.Answers.{Exported}
 use Rattle.kiss_writer.proofs.Told.{told_apart}
 use Rattle.kiss_writer.proofs.write.Kinds as kwrite
 use Rattle.kiss_writer.proofs.write.Reads as rwrite

@@ -1,5 +1,5 @@
 -- The import finds the frames again that the export wrote.
-use Rattle.std.specs.Prelude.{ℕ, ◌<◌, ◌≡◌, List, map, length, take}
+use Rattle.std.specs.Prelude.{ℕ, ◌<◌, ◌≡◌, List, map, length, take, Ok}
 use Rattle.octets.specs.Numbers.{at}
 use Rattle.rules.specs.Packets.{cut}
 use Rattle.stretch.specs.Stretch.{Stretch, found, most_kept}
@@ -7,7 +7,6 @@ use Rattle.kiss.specs.Stream.{stretches_in}
 use Rattle.kiss.specs.Reader.{standing, fresh}
 use Rattle.kiss.specs.Statements.{Scans, joined}
 use Rattle.kiss_writer.specs.Export.{Exports}
-use Rattle.kiss_writer.specs.declared.Exported.TheVariants.{Length}
 
 -- A stream holds these frames and nothing else, and so does a reader find that gets it in any pieces.
 pub record Holds (stream : List ℕ) (frames : List (List ℕ)) : Type 0 where
@@ -19,4 +18,4 @@ pub record Holds (stream : List ℕ) (frames : List (List ℕ)) : Type 0 where
 abbrev pub CallsFoundAgain : Type 0
 CallsFoundAgain =
     (t : ℕ) (octets lengths out : List ℕ) (n : ℕ) (out' : List ℕ) → ((i : ℕ) → at octets i < 256)
-    → Exports t octets lengths out (Length n) out' → Holds (take n out') (cut octets lengths)
+    → Exports t octets lengths out (Ok n) out' → Holds (take n out') (cut octets lengths)

@@ -1,8 +1,8 @@
 -- Document 02, M-110: what the export writes and answers.
-use Rattle.std.specs.Prelude.{ℕ, ◌≡◌, List, [], ◌∷◌, ◌++◌, map, length, ltb}
+use Rattle.std.specs.Prelude.{ℕ, ◌≡◌, List, [], ◌∷◌, ◌++◌, map, length, ltb, Ok, Err}
 use Rattle.octets.specs.Pick.{pick}
 use Rattle.octets.specs.Parts.{written}
-use Rattle.answer.specs.Told.{Told, accept, refuse, refuse_at, TellsNothing}
+use Rattle.answer.specs.Told.{Told, accept, refuse, refuse_at, TellsNothing, refuse_for}
 use Rattle.answer.specs.Refusals as no
 use Rattle.crc.specs.Check.{before}
 use Rattle.frame.specs.Limits.{longest_time}
@@ -10,8 +10,7 @@ use Rattle.frame.specs.Frame.{read_frame}
 use Rattle.rules.specs.Packets.{joined, cut}
 use Rattle.lengths.specs.Lengths.{lengths_wrong}
 use Rattle.kiss.specs.Stream.{mark, data_frame, escaped}
-use Rattle.kiss_writer.specs.declared.Exported.{Exported}
-use Rattle.kiss_writer.specs.declared.Exported.TheVariants.{Length, Refused}
+use Rattle.kiss_writer.specs.Answers.{Exported}
 
 -- ---- the stream
 
@@ -30,8 +29,8 @@ stream_of frames = mark ∷ joined (map block_of frames)
 
 -- How many octets were written, or the refusal with the octet that it tells.
 abbrev pub told : Exported → Told ℕ
-told (Length n) = accept n
-told (Refused r) = refuse_at 0 r.number r.octet
+told (Ok n) = accept n
+told (Err r) = refuse_for 0 r
 
 abbrev pub RefusalsTellNothing : Type 0
 RefusalsTellNothing = TellsNothing told (λ n. n ∷ [])

@@ -1,3 +1,4 @@
+pub mod Answers
 pub mod Export
 pub mod Asked
 pub mod Back

@@ -14,16 +14,9 @@ const CHECK: usize = 2;
 fn escapes(body: &[u8]) -> usize
     ensures { length (escaped body.now) ≡ length body.now + result }
 {
-    let mut count: usize = 0;
-    let mut i = 0;
-    while i < body.len() {
-        let x = body[i];
-        i += 1;
-        if (x == kiss::MARK) | (x == kiss::ESCAPE) {
-            count += 1;
-        }
-    }
-    count
+    body.iter()
+        .filter(|x| (**x == kiss::MARK) | (**x == kiss::ESCAPE))
+        .count()
 }
 
 // How many octets of all frames are escaped, the checks left out.
@@ -33,13 +26,10 @@ pub(crate) fn all_escapes(octets: &[u8], lengths: &[u16]) -> usize
 {
     let mut count: usize = 0;
     let mut at = 0;
-    let mut i = 0;
-    while i < lengths.len() {
-        let next = at + lengths[i] as usize;
-        let end = next - CHECK;
-        count += escapes(&octets[at..end]);
+    for &length in lengths {
+        let next = at + usize::from(length);
+        count += escapes(&octets[at..next - CHECK]);
         at = next;
-        i += 1;
     }
     count
 }
@@ -52,24 +42,19 @@ fn lay_block(body: &[u8], at: usize, out: &mut [u8]) -> usize
 {
     out[at] = kiss::DATA_FRAME;
     let mut n = at + 1;
-    let mut i = 0;
-    while i < body.len() {
-        let x = body[i];
-        i += 1;
+    for &x in body {
         if x == kiss::MARK {
             out[n] = kiss::ESCAPE;
             out[n + 1] = kiss::FOR_MARK;
             n += 2;
-            continue;
-        }
-        if x == kiss::ESCAPE {
+        } else if x == kiss::ESCAPE {
             out[n] = kiss::ESCAPE;
             out[n + 1] = kiss::FOR_ESCAPE;
             n += 2;
-            continue;
+        } else {
+            out[n] = x;
+            n += 1;
         }
-        out[n] = x;
-        n += 1;
     }
     out[n] = kiss::MARK;
     n + 1
@@ -84,13 +69,10 @@ pub(crate) fn lay(octets: &[u8], lengths: &[u16], out: &mut [u8]) -> usize
     out[0] = kiss::MARK;
     let mut end = 1;
     let mut at = 0;
-    let mut i = 0;
-    while i < lengths.len() {
-        let next = at + lengths[i] as usize;
-        let body = next - CHECK;
-        end = lay_block(&octets[at..body], end, out);
+    for &length in lengths {
+        let next = at + usize::from(length);
+        end = lay_block(&octets[at..next - CHECK], end, out);
         at = next;
-        i += 1;
     }
     end
 }

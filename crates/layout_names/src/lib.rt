@@ -4,82 +4,48 @@
 ghost use Rattle.std.specs.Prelude.{◌≡◌, ◌-◌};
 ghost use Rattle.octets.specs.Numbers.{at};
 ghost use Rattle.octets.specs.Parts.{part};
-ghost use Rattle.layout_names.specs.Names.{names_of, same_name, earlier, first_within, first_repeated, is_newline, newlines};
+ghost use Rattle.layout_names.specs.Names.{names_of, same_name, earlier, first_within, first_repeated, newlines};
 
-// Which entry has a name that an entry of its layout before it has, if any.
-#[derive(Clone, Copy)]
-pub enum Repeat {
-    Entry(usize),
-    Nothing,
-}
-
-// The first entry whose name an entry of its layout before it has, of n layouts: layout i has the entries from starts[i] up to
+// The first entry, if any, whose name an entry of its layout before it has, of n layouts: layout i has the entries from starts[i] up to
 // starts[i + 1], and the name of entry j is the octets froms[j] up to tos[j] of the text.
-pub fn repeated(text: &[u8], starts: &[usize], n: usize, froms: &[usize], tos: &[usize]) -> Repeat
+pub fn repeated(
+    text: &[u8],
+    starts: &[usize],
+    n: usize,
+    froms: &[usize],
+    tos: &[usize],
+) -> Option<usize>
     ensures { result ≡ first_repeated (names_of text.now froms.now tos.now) starts.now n }
 {
-    let mut i = 0;
-    while i < n {
-        let next = i + 1;
+    for i in 0..n {
         let from = element(starts, i);
-        let to = element(starts, next);
-        if let Repeat::Entry(k) = within(text, froms, tos, from, to) {
-            return Repeat::Entry(k);
+        let to = element(starts, i + 1);
+        if let Some(k) = within(text, froms, tos, from, to) {
+            return Some(k);
         }
-        i = next;
     }
-    Repeat::Nothing
+    None
 }
 
 // How many lines end in octets.
 pub fn lines(octets: &[u8]) -> usize
     ensures { result ≡ newlines octets.now }
 {
-    let mut n: usize = 0;
-    let mut i = 0;
-    while i < octets.len() {
-        n += line_end(octets[i]);
-        i += 1;
-    }
-    n
-}
-
-// How many lines end with an octet.
-fn line_end(octet: u8) -> usize
-    ensures { result ≡ is_newline octet }
-{
-    if octet == b'\n' {
-        return 1;
-    }
-    0
+    octets.iter().filter(|&&octet| octet == b'\n').count()
 }
 
 // The first of the entries from index from up to index to whose name one of them before it has.
-fn within(text: &[u8], froms: &[usize], tos: &[usize], from: usize, to: usize) -> Repeat
+fn within(text: &[u8], froms: &[usize], tos: &[usize], from: usize, to: usize) -> Option<usize>
     ensures { result ≡ first_within (names_of text.now froms.now tos.now) from to }
 {
-    let mut k = from;
-    while k < to {
-        if earlier(text, froms, tos, from, k) {
-            return Repeat::Entry(k);
-        }
-        k += 1;
-    }
-    Repeat::Nothing
+    (from..to).find(|&k| earlier(text, froms, tos, from, k))
 }
 
 // Whether an entry from index from on, before entry k, has its name.
 fn earlier(text: &[u8], froms: &[usize], tos: &[usize], from: usize, k: usize) -> bool
     ensures { result ≡ earlier (names_of text.now froms.now tos.now) from k }
 {
-    let mut j = from;
-    while j < k {
-        if same_name(text, froms, tos, j, k) {
-            return true;
-        }
-        j += 1;
-    }
-    false
+    (from..k).any(|j| same_name(text, froms, tos, j, k))
 }
 
 // Whether two entries have the same name, which has octets.
@@ -95,19 +61,12 @@ fn same_name(text: &[u8], froms: &[usize], tos: &[usize], j: usize, k: usize) ->
 fn name(text: &[u8], from: usize, to: usize) -> &[u8]
     ensures { result.now ≡ part text.now from (to - from) }
 {
-    if to <= from {
-        return octets::part(text, from, 0);
-    }
-    let n = to - from;
-    octets::part(text, from, n)
+    octets::part(text, from, to.saturating_sub(from))
 }
 
 // The element at an index; 0 past the end.
 fn element(list: &[usize], i: usize) -> usize
     ensures { result ≡ at list.now i }
 {
-    if list.len() <= i {
-        return 0;
-    }
-    list[i]
+    list.get(i).copied().unwrap_or(0)
 }

@@ -8,15 +8,13 @@ use super::Fault;
 fn in_line(text: &[u8], at: usize, octet: u8) -> bool
     ensures { result ≡ in_line octet (drop at text.now) }
 {
-    let mut i = at;
-    while i < text.len() {
+    for i in at..text.len() {
         if text[i] == b'\n' {
             return false;
         }
         if text[i] == octet {
             return true;
         }
-        i += 1;
     }
     false
 }
@@ -25,17 +23,15 @@ fn in_line(text: &[u8], at: usize, octet: u8) -> bool
 fn second(text: &[u8], at: usize) -> usize
     ensures { result ≡ second_at text.now at }
 {
-    let mut i = at;
-    while i < text.len() {
+    for i in at..text.len() {
         if text[i] == b'\n' {
             return i;
         }
         if text[i] == b' ' {
             return i + 1;
         }
-        i += 1;
     }
-    i
+    at.max(text.len())
 }
 
 // Whether a number at index at of text has a leading zero.

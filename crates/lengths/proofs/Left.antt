@@ -1,14 +1,13 @@
 -- What is left of n octets after the first lengths.
-use Prim.Native.Nat.{ℕ, zero, suc, ◌+◌, ◌-◌, ◌≤◌, ◌<◌}
-use mathlib.Core.Path.{◌≡◌, sym, ap, ◌∙◌}
+use Prim.Native.Nat.{ℕ, ◌+◌, ◌-◌, ◌≤◌, ◌<◌}
+use mathlib.Core.Path.{◌≡◌, sym, ap}
 use mathlib.Core.List.{List}
 use mathlib.Core.Bool.{true, not}
 use native.Mathlib.Omega.{arith}
 use lib.ListN.{length, get_or, take}
-use lib.Dec.{eqb}
-use borrow.Author.Tests.{eq-eqb, ne_eqb}
+use borrow.Author.Tests.{ne_eqb}
 use Rattle.rules.specs.Packets.{total}
-use Rattle.rules.proofs.Lengths.{total-front, total-all, total-next}
+use Rattle.rules.proofs.Lengths.{total-front, total-next}
 use Rattle.lengths.specs.Lengths.{lengths_wrong}
 
 pub record Left (ns : List ℕ) (n left i : ℕ) : Type 0 where
@@ -26,10 +25,3 @@ module _ {ns : List ℕ} {n left i : ℕ} (t : Left ns n left i) where
   left-short h l =
       let more : n < total ns = omega (arith, t.even, total-next ns i h, total-front (i + 1) ns) in
       sym (ap not (ne_eqb (total ns) n (λ q. omega arith)))
-
-  pub left_end : length ns ≤ i → not (eqb left 0) ≡ lengths_wrong ns n
-  left_end h = go left (omega (arith, t.even, total-all ns i h))
-    where
-      go : (k : ℕ) → k + total ns ≡ n → not (eqb k 0) ≡ not (eqb (total ns) n)
-      go zero e = sym (ap not (eq-eqb (total ns) n (omega arith)))
-      go (suc k) e = ap not (ne_eqb (suc k) 0 (λ q. omega arith)) ∙ sym (ap not (ne_eqb (total ns) n (λ q. omega arith)))

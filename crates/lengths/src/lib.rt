@@ -9,14 +9,12 @@ pub fn wrong(lengths: &[u16], n: usize) -> bool
     ensures { result ≡ lengths_wrong lengths.now n }
 {
     let mut left = n;
-    let mut i = 0;
-    while i < lengths.len() {
-        let length = lengths[i] as usize;
+    for x in lengths {
+        let length = usize::from(*x);
         if left < length {
             return true;
         }
         left -= length;
-        i += 1;
     }
     left != 0
 }

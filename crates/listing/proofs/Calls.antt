@@ -31,7 +31,7 @@ use Rattle.listing.specs.Promised.{room, to_come}
 use Rattle.listing.specs.Next.{Next, receiver, here, behind, offering, by_section, sections, next_of, Nexts, Stops, Part, NextsAreParts}
 use Rattle.listing.specs.declared.Listed.{Listed}
 use Rattle.listing.specs.declared.Stop.{Stop}
-use Rattle.listing.specs.declared.Stop.TheVariants.{Missing, Full, Over}
+use Rattle.listing.specs.declared.Stop.TheVariants.{Full}
 use Rattle.listing.proofs.Parts.{Brings, known, brings_header, brings_nothing, brings_offer, brings_bad}
 
 -- a frame's lines have room

@@ -1,4 +1,5 @@
 -- The lines of packets, one behind another.
+use Rattle.std.specs.Prelude.{Result, Ok, Err, MatchResult, IsErrAnd}
 use Prim.Native.Nat.{ℕ, ◌+◌, ◌*◌, ◌≤◌, ◌<◌}
 use mathlib.Core.Path.{◌≡◌, sym, ap, ◌∙◌}
 use mathlib.Core.List.{List, [], ◌∷◌, ◌++◌, append-nil, append_assoc}
@@ -6,23 +7,30 @@ use native.Mathlib.Omega.{arith}
 use native.Mathlib.Numerals.{add-one}
 use lib.ListN.{length, get_or, take, drop, length-drop}
 use lib.Seq.{drop-drop, take-suc, take-take, length-take-le}
-use Rattle.octets.specs.Parts.{part}
-use Rattle.octets.proofs.Placing.{part-some}
 use Rattle.answer.specs.declared.Refusal.{Refusal}
 use Rattle.packet.specs.Packet.{read_packet, told}
-use Rattle.packet.specs.declared.PacketRead.{PacketRead}
+use Rattle.packet.specs.Answers.{PacketRead}
 use Rattle.rules.specs.Packets.{total}
 use Rattle.rules.proofs.Lengths.{total-front, total-next}
 use Rattle.session.specs.Step.{told as toldStep}
 use Rattle.session.specs.declared.Accepted.{Accepted}
-use Rattle.session.specs.declared.StepAnswer.{StepAnswer}
-use Rattle.session.specs.declared.StepAnswer.TheVariants as steps
+use Rattle.session.specs.Answers.{StepAnswer}
 use Rattle.decimal.specs.Laid.{Laid, Puts}
 use Rattle.decimal.proofs.Laid.{joined, resaid, laid_puts}
-use Rattle.listing_lines.specs.Text.{longest_line, answer_text, packet_text}
+use Rattle.listing_lines.specs.Text.{longest_line, answer_text, packet_text, numbered}
+use Rattle.answer.specs.Told.{number_of}
+use Rattle.packet.specs.declared.Packet.{Packet}
 use Rattle.listing_lines.proofs.Short.{lines_are_short}
 use Rattle.listing.specs.Listing.{packets_text}
 use Rattle.listing.specs.Promised.{room, cut, answered}
+
+-- a line tells of a refusal no more than its number
+pub by-number : (first arrival size : ℕ) (read : PacketRead) (m : Result Packet ℕ)
+    → MatchResult read (λ x. m ≡ Ok x) (λ e. IsErrAnd m (λ n. n ≡ number_of e))
+    → packet_text first arrival size (numbered m) ≡ packet_text first arrival size (told read)
+by-number first arrival size (Ok p) m h = ap (λ x. packet_text first arrival size (numbered x)) h
+by-number first arrival size (Err e) (Ok p) h = absurd h
+by-number first arrival size (Err e) (Err n) h = ap (λ (k : ℕ). packet_text first arrival size (numbered (Err k))) h
 
 -- one packet more
 packets-more : (a : ℕ) (octets ns firsts : List ℕ) (n : ℕ) → total ns + n ≤ length octets → length ns < length firsts
@@ -54,26 +62,25 @@ module _ (list : List ℕ) (i : ℕ) (inside : i < length list) where
   next-inside {packets} h r =
       omega (arith, next-from, total-front (i + 1) (take packets list), ap total (take-take (i + 1) packets list (omega arith)))
 
-  pub one-packet-more : (arrival : ℕ) (octets firsts : List ℕ) (read : PacketRead) {at r₁ r₂ from : ℕ} {out out₁ out₂ : List ℕ}
+  pub one-packet-more : (arrival : ℕ) (octets firsts : List ℕ) (read : PacketRead) {n at r₁ r₂ from : ℕ} {out out₁ out₂ : List ℕ}
       → at ≤ length out
       → i < length firsts
+      → n ≡ get_or list i 0
       → from ≡ total (take i list) → total (take i list) + get_or list i 0 ≤ length octets
-      → told read ≡ read_packet (part octets from (get_or list i 0))
+      → told read ≡ read_packet (take n (drop from octets))
       → Laid (longest_line * i) (packets_text (cut arrival octets (take i list) firsts)) out at out₁ r₁
-      → r₁ + longest_line ≤ length out₁ → Puts longest_line (packet_text (get_or firsts i 0) arrival (get_or list i 0) (told read)) out₁ r₁ out₂ r₂
+      → r₁ + longest_line ≤ length out₁ → Puts longest_line (packet_text (get_or firsts i 0) arrival n (told read)) out₁ r₁ out₂ r₂
       → Laid (longest_line * (i + 1)) (packets_text (cut arrival octets (take (i + 1) list) firsts)) out at out₂ r₂
-  one-packet-more arrival octets firsts read h numbers f there e x has y =
-      let n : ℕ = get_or list i 0 in
-      let p : part octets (total (take i list)) n ≡ take n (drop (total (take i list)) octets) = sym
-      (part-some octets (total (take i list)) n there) in
-      let d : told read ≡ read_packet (take n (drop (total (take i list)) octets)) = e ∙ ap (λ (k : ℕ). read_packet (part octets k n)) f
-      ∙ ap read_packet p in
+  one-packet-more arrival octets firsts read {n} h numbers m f there e x has y =
+      let d : told read ≡ read_packet (take n (drop (total (take i list)) octets)) =
+      e ∙ ap (λ (k : ℕ). read_packet (take n (drop k octets))) f in
       resaid
       (ap (λ t. packets_text (cut arrival octets (take i list) firsts) ++ packet_text (get_or firsts i 0) arrival n t) d
       ∙ ap (λ (k : ℕ). packets_text (cut arrival octets (take i list) firsts) ++ packet_text (get_or firsts k 0) arrival n
       (read_packet (take n (drop (total (take i list)) octets)))) (sym so_many)
-      ∙ packets-more arrival octets (take i list) firsts n there (omega (arith, so_many)) ∙ ap
-      (λ (l : List ℕ). packets_text (cut arrival octets l firsts)) (sym take_more))
+      ∙ packets-more arrival octets (take i list) firsts n (omega arith) (omega (arith, so_many))
+      ∙ ap (λ (k : ℕ). packets_text (cut arrival octets (take i list ++ (k ∷ [])) firsts)) m
+      ∙ ap (λ (l : List ℕ). packets_text (cut arrival octets l firsts)) (sym take_more))
       (omega arith) (joined h x (laid_puts has (lines_are_short.packets (get_or firsts i 0) arrival n (told read)) y))
 
 -- A frame's line, and behind it the lines of its packets, n of them.
@@ -90,7 +97,7 @@ module _ (answer : StepAnswer) (arrival : ℕ) (octets lengths firsts : List ℕ
       resaid (ap (λ (k : ℕ). answer_text arrival (toldStep answer) ++ packets_text (cut arrival octets (take k lengths) firsts)) e)
       (omega arith) (joined (omega arith) line-laid y)
 
-  pub without_packets : {n : Refusal} → answer ≡ steps.Refused n → Laid room
+  pub without_packets : {n : Refusal} → answer ≡ Err n → Laid room
       (answered arrival (toldStep answer) octets lengths firsts) out at out₁ r₁
   without_packets e =
       resaid
@@ -99,6 +106,6 @@ module _ (answer : StepAnswer) (arrival : ℕ) (octets lengths firsts : List ℕ
       (omega arith) line-laid
 
 -- how many, of an answer that was taken apart
-pub told-packets : {answer : StepAnswer} {a : Accepted} {n : ℕ} → answer ≡ steps.Accepted a → n ≡ a.packets
+pub told-packets : {answer : StepAnswer} {a : Accepted} {n : ℕ} → answer ≡ Ok a → n ≡ a.packets
     → n ≡ (toldStep answer).fields.packets
 told-packets e h = h ∙ sym (ap (λ (y : StepAnswer). (toldStep y).fields.packets) e)

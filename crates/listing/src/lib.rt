@@ -12,10 +12,11 @@ ghost use Rattle.listing.specs.Listing.{packets_text};
 ghost use Rattle.listing.specs.Promised.{room, at_end, answered, cut};
 ghost use Rattle.listing.specs.Next.{stopped, Nexts};
 
+use answer::{Reason, Refusal};
 use listing_lines::{LINE, bad_line};
 use packet::Packet;
 use receiver::Receiver;
-use session::{Session, StepAnswer};
+use session::{Accepted, Session};
 use source::{Source, Taken};
 use stretch::KEPT;
 
@@ -92,8 +93,15 @@ pub fn next(receiver: Receiver, window: &[u8], kept: &mut [u8; KEPT], out: &mut 
                     &mut firsts,
                 );
                 session = stepped.session;
-                let told = stepped.answer;
-                size = frame_lines(out, size, session.arrival, told, &octets, &lengths, &firsts);
+                size = frame_lines(
+                    out,
+                    size,
+                    session.arrival,
+                    stepped.answer,
+                    &octets,
+                    &lengths,
+                    &firsts,
+                );
             }
         }
         at += scanned.used;
@@ -116,7 +124,7 @@ fn frame_lines(
     out: &mut [u8],
     used: usize,
     arrival: u32,
-    answer: StepAnswer,
+    answer: Result<Accepted, Refusal>,
     octets: &[u8],
     lengths: &[u16],
     firsts: &[u32],
@@ -131,18 +139,18 @@ fn frame_lines(
 {
     let next = listing_lines::answer_line(out, used, arrival, answer);
     match answer {
-        StepAnswer::Accepted(a) => {
+        Ok(a) => {
             packet_lines(
                 out,
                 next,
                 arrival,
-                octets::wide(a.packets),
+                usize::from(a.packets),
                 octets,
                 lengths,
                 firsts,
             )
         }
-        StepAnswer::Refused(_) => next,
+        Err(_) => next,
     }
 }
 
@@ -166,14 +174,12 @@ fn packet_lines(
 {
     let mut next = used;
     let mut from = 0;
-    let mut i = 0;
-    while i < packets {
+    for i in 0..packets {
         let size = lengths[i];
-        let first = firsts[i];
-        let read = Packet::read(octets::part(octets, from, size as usize));
-        next = listing_lines::packet_line(out, next, first, arrival, size, read);
-        from += size as usize;
-        i += 1;
+        let end = from + usize::from(size);
+        let read = Packet::read(&octets[from..end]).map_err(Reason::number);
+        next = listing_lines::packet_line(out, next, firsts[i], arrival, size, read);
+        from = end;
     }
     next
 }

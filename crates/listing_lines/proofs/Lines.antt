@@ -1,4 +1,5 @@
 -- A line that was laid where it has room.
+use Rattle.std.specs.Prelude.{Result, Ok, Err, Some, None}
 use Prim.Native.Nat.{ℕ, ◌+◌, ◌*◌, ◌≤◌, ◌<◌}
 use mathlib.Core.Path.{◌≡◌, refl, sym, ◌∙◌}
 use mathlib.Core.List.{List, [], ◌∷◌, ◌++◌, append_assoc}
@@ -6,7 +7,7 @@ use mathlib.Core.Bool.{Bool, true, false}
 use native.Mathlib.Omega.{arith}
 use lib.Dec.{ltb}
 use lib.ListN.{length, length-append}
-use borrow.Author.Tests.{lt-ltb, le-ltb, ltb-true, ltb-false}
+use borrow.Author.Tests.{ltb-true, ltb-false}
 use Rattle.octets.specs.Pick.{pick}
 use Rattle.octets.specs.Parts.{put}
 use Rattle.answer.specs.declared.Refusal.{Refusal}
@@ -14,17 +15,12 @@ use Rattle.decimal.specs.Text.{longest_number, decimal, each}
 use Rattle.decimal.specs.Laid.{Laid, Puts}
 use Rattle.decimal.proofs.Laid.{resaid, joined, behind-numbers, put-laid, puts_none, puts_laid, laid_puts, number-laid, numbers-laid}
 use Rattle.decimal.proofs.Short.{decimal-short}
-use Rattle.counts.specs.declared.Loss.{Loss}
-use Rattle.counts.specs.declared.Loss.TheVariants.{Unknown, Known}
-use Rattle.packet.specs.Packet.{told}
+use Rattle.counts.specs.Loss.{Loss}
 use Rattle.packet.specs.declared.Packet.{Packet}
-use Rattle.packet.specs.declared.PacketRead.{PacketRead}
-use Rattle.packet.specs.declared.PacketRead.TheVariants as variants
 use Rattle.session.specs.declared.Accepted.{Accepted}
-use Rattle.session.specs.declared.StepAnswer.{StepAnswer}
-use Rattle.session.specs.declared.StepAnswer.TheVariants as steps
+use Rattle.session.specs.Answers.{StepAnswer}
 use Rattle.listing_lines.specs.Text.{longest_line, shown, accepted_line, refused_line, packet_line, turned_away_line, packet_text}
-use Rattle.listing_lines.specs.Text.{answer_text}
+use Rattle.listing_lines.specs.Text.{answer_text, numbered}
 use Rattle.session.specs.Step.{told as toldStep}
 
 -- numbers, and a last one
@@ -54,17 +50,17 @@ pub mark-put : {out out' : List ℕ} {at : ℕ} → at + longest_number ≤ leng
 mark-put h e = puts_laid h (resaid refl (omega arith) (put-laid (omega arith) e))
 
 -- a loss, unknown or not
-pub unknown-put : {lost : Loss} {out out' : List ℕ} {at r : ℕ} → lost ≡ Unknown → Puts longest_number (63 ∷ 32 ∷ []) out at out' r
+pub unknown-put : {lost : Loss} {out out' : List ℕ} {at r : ℕ} → lost ≡ None → Puts longest_number (63 ∷ 32 ∷ []) out at out' r
     → Puts longest_number (shown lost ++ (32 ∷ [])) out at out' r
 unknown-put e p = rw e p
 
-pub known-put : {lost : Loss} {n : ℕ} {out out' : List ℕ} {at r : ℕ} → lost ≡ Known n → Puts longest_number
+pub known-put : {lost : Loss} {n : ℕ} {out out' : List ℕ} {at r : ℕ} → lost ≡ Some n → Puts longest_number
     (decimal n ++ (32 ∷ [])) out at out' r → Puts longest_number (shown lost ++ (32 ∷ [])) out at out' r
 known-put e p = rw e p
 
 shown-short : (l : Loss) → length (shown l ++ (32 ∷ [])) ≤ longest_number
-shown-short Unknown = omega arith
-shown-short (Known n) = simp length-append (omega (arith, decimal-short n))
+shown-short None = omega arith
+shown-short (Some n) = simp length-append (omega (arith, decimal-short n))
 
 -- three texts, each but the last with a space behind it
 three : (a b c : List ℕ) {k m n : ℕ} {out out₁ out₂ out₃ : List ℕ} {at r₁ r₂ r₃ : ℕ} → at ≤ length out → r₁ ≤ length out₁ → Laid k
@@ -89,13 +85,6 @@ losses_then ns lost master n x y z w room e₁ e₂ e₃ =
     (behind-numbers 32 ns (omega arith) l
     (three (shown lost) (shown master) (decimal n ++ (10 ∷ [])) (omega (arith, l.near)) (omega (arith, l.near, a.near)) a b d))
 
--- whether a line has no room
-pub lacks_room : (out : List ℕ) (at : ℕ) → length out < at + longest_line → true ≡ ltb (length out) (at + longest_line)
-lacks_room out at h = sym (lt-ltb _ _ h)
-
-pub has_room : (out : List ℕ) (at : ℕ) → at + longest_line ≤ length out → false ≡ ltb (length out) (at + longest_line)
-has_room out at h = sym (le-ltb _ _ h)
-
 -- Where a line has no room, and where it has.
 module _ (out : List ℕ) (at : ℕ) {b : Bool} (e : b ≡ ltb (length out) (at + longest_line)) where
   pub none-put : {text : List ℕ} → b ≡ true → Puts longest_line text out at out at
@@ -114,24 +103,24 @@ module _ (out : List ℕ) (at : ℕ) {b : Bool} (e : b ≡ ltb (length out) (at 
       let room = some-room h in
       puts_laid room (resaid refl few (put-laid (omega arith) p))
 
-module _ (first arrival size : ℕ) {at r : ℕ} {out out' : List ℕ} {read : PacketRead} where
-  pub taken-line : {p : Packet} → read ≡ variants.Packet p → Laid longest_line (packet_line first arrival p size) out at out' r
-      → Laid longest_line (packet_text first arrival size (told read)) out at out' r
+module _ (first arrival size : ℕ) {at r : ℕ} {out out' : List ℕ} {read : Result Packet ℕ} where
+  pub taken-line : {p : Packet} → read ≡ Ok p → Laid longest_line (packet_line first arrival p size) out at out' r
+      → Laid longest_line (packet_text first arrival size (numbered read)) out at out' r
   unfolding pick
   taken-line e l = rw e l
 
-  pub turned-away-line : {n : ℕ} → read ≡ variants.Refused n → Laid longest_line (turned_away_line first arrival n size) out at out' r
-      → Laid longest_line (packet_text first arrival size (told read)) out at out' r
+  pub turned-away-line : {n : ℕ} → read ≡ Err n → Laid longest_line (turned_away_line first arrival n size) out at out' r
+      → Laid longest_line (packet_text first arrival size (numbered read)) out at out' r
   unfolding pick
   turned-away-line e l = rw e l
 
 module _ (arrival : ℕ) {at r : ℕ} {out out' : List ℕ} {answer : StepAnswer} where
-  pub accepted-line : {a : Accepted} → answer ≡ steps.Accepted a → Laid longest_line (accepted_line arrival a) out at out' r
+  pub accepted-line : {a : Accepted} → answer ≡ Ok a → Laid longest_line (accepted_line arrival a) out at out' r
       → Laid longest_line (answer_text arrival (toldStep answer)) out at out' r
   unfolding pick
   accepted-line e l = rw e l
 
-  pub refused-line : {n : Refusal} → answer ≡ steps.Refused n → Laid longest_line (refused_line arrival n.number) out at out' r
+  pub refused-line : {n : Refusal} → answer ≡ Err n → Laid longest_line (refused_line arrival n.number) out at out' r
       → Laid longest_line (answer_text arrival (toldStep answer)) out at out' r
   unfolding pick
   refused-line e l = rw e l

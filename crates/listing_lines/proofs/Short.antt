@@ -1,12 +1,12 @@
 -- No line of a frame or a packet is longer than its greatest length.
+use Rattle.std.specs.Prelude.{Some, None}
 use Prim.Native.Nat.{ℕ, ◌+◌, ◌*◌, ◌≤◌}
 use mathlib.Core.List.{List, [], ◌∷◌, ◌++◌}
 use native.Mathlib.Omega.{arith}
 use lib.ListN.{length, length-append}
 use Rattle.decimal.specs.Text.{decimal, each}
 use Rattle.decimal.proofs.Short.{either_short, decimal-short, each-short}
-use Rattle.counts.specs.declared.Loss.{Loss}
-use Rattle.counts.specs.declared.Loss.TheVariants.{Unknown, Known}
+use Rattle.counts.specs.Loss.{Loss}
 use Rattle.session.specs.declared.Accepted.{Accepted}
 use Rattle.listing_lines.specs.Text.{shown, accepted_line, refused_line, packet_line, turned_away_line, LinesAreShort}
 
@@ -15,8 +15,8 @@ numbers-short : (ns : List ℕ) (n : ℕ) → length (each 32 ns (decimal n ++ (
 numbers-short ns n = omega (arith, each-short 32 ns (decimal n ++ (10 ∷ [])), length-append (decimal n) (10 ∷ []), decimal-short n)
 
 shown-short : (l : Loss) → length (shown l) ≤ 10
-shown-short Unknown = omega arith
-shown-short (Known n) = decimal-short n
+shown-short None = omega arith
+shown-short (Some n) = decimal-short n
 
 accepted-short : (arrival : ℕ) (a : Accepted) → length (accepted_line arrival a) ≤ 80
 unfolding accepted_line

@@ -1,10 +1,10 @@
 -- Document 01, 'The program and its listing': the lines of the listing, as ASCII codes.
-use Rattle.std.specs.Prelude.{ℕ, ◌≤◌, List, [], ◌∷◌, ◌++◌, length}
+use Rattle.std.specs.Prelude.{ℕ, ◌≤◌, List, [], ◌∷◌, ◌++◌, length, Result, Ok, Err, Some, None}
 use Rattle.octets.specs.Pick.{pick}
-use Rattle.answer.specs.Told.{Told}
+use Rattle.answer.specs.Told.{Told, accept, refuse}
 use Rattle.decimal.specs.Text.{decimal}
-use Rattle.counts.specs.declared.Loss.{Loss}
-use Rattle.counts.specs.declared.Loss.TheVariants.{Unknown, Known}
+use Rattle.counts.specs.Loss.{Loss}
+use Rattle.packet.specs.Packet.{no_packet}
 use Rattle.packet.specs.declared.Packet.{Packet}
 use Rattle.session.specs.declared.Accepted.{Accepted}
 
@@ -19,8 +19,8 @@ dash = 45 ∷ []
 
 -- A loss: the number, or a question mark.
 abbrev pub shown : Loss → List ℕ
-shown Unknown = 63 ∷ []
-shown (Known n) = decimal n
+shown None = 63 ∷ []
+shown (Some n) = decimal n
 
 -- Arrival, 0, channel, lost, master lost, packets.
 unfoldable pub accepted_line : ℕ → Accepted → List ℕ
@@ -45,6 +45,11 @@ turned_away_line first arrival refusal size = line (81 ∷ []) (decimal first �
 -- A frame's line: what the session told of it.
 abbrev pub answer_text : ℕ → Told Accepted → List ℕ
 answer_text arrival t = pick t.accepted (accepted_line arrival t.fields) (refused_line arrival t.refusal)
+
+-- What the packet reader told, its refusal by the number.
+abbrev pub numbered : Result Packet ℕ → Told Packet
+numbered (Ok p) = accept p
+numbered (Err n) = refuse no_packet n
 
 -- A packet's line: what the packet reader told of it.
 abbrev pub packet_text : ℕ → ℕ → ℕ → Told Packet → List ℕ

@@ -4,14 +4,13 @@
 ghost use Rattle.std.specs.Prelude.{◌≡◌, [], ◌∷◌, ◌++◌, ◌+◌, ◌≤◌, length, ltb};
 ghost use Rattle.decimal.specs.Text.{longest_number, decimal, each};
 ghost use Rattle.decimal.specs.Laid.{Laid, Puts};
-ghost use Rattle.packet.specs.Packet.{told as toldPacket};
 ghost use Rattle.session.specs.Step.{told as toldStep};
 ghost use Rattle.listing_lines.specs.Text.{longest_line, shown, accepted_line, refused_line, packet_line, turned_away_line, packet_text};
-ghost use Rattle.listing_lines.specs.Text.{answer_text, header, bad_recording};
+ghost use Rattle.listing_lines.specs.Text.{answer_text, numbered, header, bad_recording};
 
-use counts::Loss;
-use packet::{Packet, PacketRead};
-use session::{Accepted, StepAnswer};
+use answer::Refusal;
+use packet::Packet;
+use session::Accepted;
 
 // The most octets that a line takes. With less room a call here leaves `out` unchanged and returns the index that it was given.
 pub const LINE: usize = 80;
@@ -39,15 +38,20 @@ pub fn bad_line(out: &mut [u8], at: usize) -> usize
 }
 
 // The line of a frame with that arrival number that the session answered so.
-pub fn answer_line(out: &mut [u8], at: usize, arrival: u32, answer: StepAnswer) -> usize
+pub fn answer_line(
+    out: &mut [u8],
+    at: usize,
+    arrival: u32,
+    answer: Result<Accepted, Refusal>,
+) -> usize
     ensures { Puts longest_line (answer_text arrival (toldStep answer)) out.old at out.new result }
 {
     if no_room(out, at) {
         return at;
     }
     match answer {
-        StepAnswer::Accepted(a) => accepted(out, at, arrival, a),
-        StepAnswer::Refused(refusal) => refused(out, at, arrival, refusal.number),
+        Ok(a) => accepted(out, at, arrival, a),
+        Err(refusal) => refused(out, at, arrival, refusal.number),
     }
 }
 
@@ -59,16 +63,16 @@ pub fn packet_line(
     first: u32,
     arrival: u32,
     size: u16,
-    read: PacketRead,
+    read: Result<Packet, u16>,
 ) -> usize
-    ensures { Puts longest_line (packet_text first arrival size (toldPacket read)) out.old at out.new result }
+    ensures { Puts longest_line (packet_text first arrival size (numbered read)) out.old at out.new result }
 {
     if no_room(out, at) {
         return at;
     }
     match read {
-        PacketRead::Packet(p) => taken(out, at, first, arrival, p, size),
-        PacketRead::Refused(refusal) => turned_away(out, at, first, arrival, refusal, size),
+        Ok(p) => taken(out, at, first, arrival, p, size),
+        Err(refusal) => turned_away(out, at, first, arrival, refusal, size),
     }
 }
 
@@ -76,22 +80,16 @@ pub fn packet_line(
 fn no_room(out: &[u8], at: usize) -> bool
     ensures { result ≡ ltb (length out.now) (at + longest_line) }
 {
-    if out.len() < at {
-        return true;
-    }
-    if out.len() - at < LINE {
-        return true;
-    }
-    false
+    out.len() < at || out.len() - at < LINE
 }
 
 // A loss and a space behind it: the number, or a question mark.
-fn loss(out: &mut [u8], at: usize, lost: Loss) -> usize
+fn loss(out: &mut [u8], at: usize, lost: Option<u8>) -> usize
     ensures { Puts longest_number (shown lost ++ (32 ∷ [])) out.old at out.new result }
 {
     match lost {
-        Loss::Unknown => mark(out, at),
-        Loss::Known(n) => decimal::number(out, at, n as u32, b' '),
+        None => mark(out, at),
+        Some(n) => decimal::number(out, at, n as u32, b' '),
     }
 }
 
@@ -99,10 +97,7 @@ fn loss(out: &mut [u8], at: usize, lost: Loss) -> usize
 fn mark(out: &mut [u8], at: usize) -> usize
     ensures { Puts longest_number (63 ∷ 32 ∷ []) out.old at out.new result }
 {
-    if out.len() < at {
-        return at;
-    }
-    if out.len() - at < decimal::NUMBER {
+    if out.len() < at || out.len() - at < decimal::NUMBER {
         return at;
     }
     octets::put(out, at, b"? ");
@@ -116,10 +111,8 @@ fn accepted(out: &mut [u8], at: usize, arrival: u32, a: Accepted) -> usize
 {
     let list = [arrival, 0, a.channel as u32];
     let next = decimal::numbers(out, at, &list, b' ');
-    let lost = a.lost;
-    let master = a.master;
-    let after = loss(out, next, lost);
-    let last = loss(out, after, master);
+    let after = loss(out, next, a.lost);
+    let last = loss(out, after, a.master);
     decimal::number(out, last, a.packets as u32, b'\n')
 }
 
@@ -139,12 +132,11 @@ fn taken(out: &mut [u8], at: usize, first: u32, arrival: u32, p: Packet, size: u
     requires { at + longest_line ≤ length out.old }
     ensures { Laid longest_line (packet_line first arrival p size) out.old at out.new result }
 {
-    let sequence = p.sequence;
     let list = [
         first,
         arrival,
         p.apid as u32,
-        sequence.0 as u32,
+        p.sequence.0 as u32,
         p.service as u32,
         p.subtype as u32,
     ];

@@ -1,14 +1,11 @@
 -- Laws of the comparison of two rows of octets.
-use Prim.Native.Nat.{ℕ, suc, ◌+◌, ◌≤◌, ◌<◌}
-use native.Mathlib.Numerals.{add-one}
+use Prim.Native.Nat.{ℕ}
 use mathlib.Core.Path.{◌≡◌, refl, ap}
 use mathlib.Core.List.{List, [], ◌∷◌}
 use mathlib.Core.Bool.{Bool, true, false, false≢true, ◌&&◌}
-use lib.ListN.{length, drop, drop_of_length-le}
-use lib.Seq.{drop-cons}
 use lib.Dec.{eqb}
-use borrow.Author.Tests.{eq-eqb, ne_eqb, eqb-true}
-use Rattle.octets.specs.Numbers.{at}
+use lib.Pointwise.{pointwise}
+use borrow.Author.Tests.{eq-eqb, eqb-true}
 use Rattle.octets.proofs.Tests.{and_true_left, and_true_right}
 use Rattle.octets.specs.Same.{same, SameIsEqual}
 
@@ -34,26 +31,10 @@ same_equal [] (y ∷ ys) h = absurd (false≢true h)
 pub same_is_equal : SameIsEqual
 same_is_equal s t = (same_equal s t, λ e. rw e (same_alike t))
 
--- rows of two lengths differ
-pub same_length : (s t : List ℕ) → (length s ≡ length t → ⊥) → same s t ≡ false
+-- what the slices' own comparison says
+pub pointwise_same : (s t : List ℕ) → pointwise eqb s t ≡ same s t
 unfolding same
-same_length [] [] h = absurd (h refl)
-same_length (x ∷ xs) (y ∷ ys) h = simp (same_length xs ys (λ e. h (ap suc e))) (and_no (eqb x y))
-same_length (x ∷ xs) [] h = refl
-same_length [] (y ∷ ys) h = refl
-
-module _ (s t : List ℕ) (i : ℕ) (p : i < length s) (q : i < length t) where
-  -- where the octets at i are equal the rest decides,
-  pub same-on : at s i ≡ at t i → same (drop i s) (drop i t) ≡ same (drop (i + 1) s) (drop (i + 1) t)
-  unfolding same
-  same-on e = rw (drop-cons s i 0 p, drop-cons t i 0 q, add-one) (simp (eq-eqb _ _ e))
-
-  -- else the rows differ
-  pub same_not : (at s i ≡ at t i → ⊥) → same (drop i s) (drop i t) ≡ false
-  unfolding same
-  same_not n = rw (drop-cons s i 0 p, drop-cons t i 0 q) (simp (ne_eqb _ _ n))
-
--- past the end nothing is left to differ
-pub same_end : (s t : List ℕ) (i : ℕ) → length s ≤ i → length t ≤ i → same (drop i s) (drop i t) ≡ true
-unfolding same
-same_end s t i p q = simp (drop_of_length-le s p, drop_of_length-le t q)
+pointwise_same [] [] = refl
+pointwise_same (x ∷ xs) (y ∷ ys) = ap (λ b. eqb x y && b) (pointwise_same xs ys)
+pointwise_same (x ∷ xs) [] = refl
+pointwise_same [] (y ∷ ys) = refl

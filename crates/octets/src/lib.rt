@@ -10,97 +10,65 @@ ghost use Rattle.octets.specs.Same.{same};
 pub fn wide(x: u8) -> usize
     ensures { result ≡ x }
 {
-    x as usize
+    usize::from(x)
 }
 
 // The number of two octets.
 pub fn word(high: u8, low: u8) -> u16
     ensures { result ≡ word high low }
 {
-    (high as u16) * 256 + low as u16
+    u16::from_be_bytes([high, low])
 }
 
 // The number of four octets.
 pub fn four(a: u8, b: u8, c: u8, d: u8) -> u32
     ensures { result ≡ four a b c d }
 {
-    (((a as u32) * 256 + b as u32) * 256 + c as u32) * 256 + d as u32
+    u32::from_be_bytes([a, b, c, d])
 }
 
 // The number of five octets.
 pub fn five(a: u8, b: u8, c: u8, d: u8, e: u8) -> u64
     ensures { result ≡ five a b c d e }
 {
-    ((((a as u64) * 256 + b as u64) * 256 + c as u64) * 256 + d as u64) * 256 + e as u64
+    u64::from_be_bytes([0, 0, 0, a, b, c, d, e])
 }
 
 // The two octets of a number.
 pub fn word_octets(n: u16) -> [u8; 2]
     ensures { result ≡ word_of n }
 {
-    [(n / 256) as u8, (n % 256) as u8]
+    u16::to_be_bytes(n)
 }
 
 // The four octets of a number.
 pub fn four_octets(n: u32) -> [u8; 4]
     ensures { result ≡ four_of n }
 {
-    let third = n / 256;
-    let second = third / 256;
-    [
-        (second / 256) as u8,
-        (second % 256) as u8,
-        (third % 256) as u8,
-        (n % 256) as u8,
-    ]
+    u32::to_be_bytes(n)
 }
 
 // The low five octets of a number.
 pub fn five_octets(n: u64) -> [u8; 5]
     ensures { result ≡ five_of n }
 {
-    let fourth = n / 256;
-    let third = fourth / 256;
-    let second = third / 256;
-    [
-        (second / 256 % 256) as u8,
-        (second % 256) as u8,
-        (third % 256) as u8,
-        (fourth % 256) as u8,
-        (n % 256) as u8,
-    ]
+    let [_, _, _, a, b, c, d, e] = u64::to_be_bytes(n);
+    [a, b, c, d, e]
 }
 
 // The n octets of s from index at on; none if s has not all of them.
 pub fn part(s: &[u8], at: usize, n: usize) -> &[u8]
     ensures { result.now ≡ part s.now at n }
 {
-    if s.len() < at {
-        return &s[..0];
-    }
-    if s.len() - at < n {
-        return &s[..0];
-    }
-    let end = at + n;
-    &s[at..end]
+    let rest = s.get(at..).unwrap_or(&[]);
+    rest.get(..n).unwrap_or(&[])
 }
 
 // Whether two rows of octets are equal.
 pub fn same(a: &[u8], b: &[u8]) -> bool
     ensures { result ≡ same a.now b.now }
 {
-    let n = a.len();
-    if n != b.len() {
-        return false;
-    }
-    let mut i = 0;
-    while i < n {
-        if a[i] != b[i] {
-            return false;
-        }
-        i += 1;
-    }
-    true
+    a == b
 }
 
 // The octets of src at index at of out, if all fit there; else out stays.
@@ -114,9 +82,5 @@ pub fn put(out: &mut [u8], at: usize, src: &[u8])
     if out.len() - n < at {
         return;
     }
-    let mut i = 0;
-    while i < n {
-        out[at + i] = src[i];
-        i += 1;
-    }
+    out[at..at + n].copy_from_slice(src);
 }

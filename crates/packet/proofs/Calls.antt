@@ -1,19 +1,19 @@
 -- Demand 2 over the calls `write`, `read` and `source`, by the contracts that Rattle generates of them.
+use Rattle.std.specs.Prelude.{Ok}
 use Prim.Native.Nat.{ℕ}
 use mathlib.Core.Path.{◌≡◌, refl}
 use mathlib.Core.List.{List}
 use lib.ListN.{length}
 use Rattle.answer.specs.Called.{Called}
 use Rattle.answer.specs.Back.{Format, CallsBack}
-use Rattle.answer.specs.declared.Written.{Written}
+use Rattle.answer.specs.Writer.{Written}
 use Rattle.answer.proofs.Called.{of_call}
 use Rattle.answer.proofs.Back.{Defined}
 use Rattle.answer.proofs.Back as back
 use Rattle.packet.specs.Packet.{told, read_packet, source_of}
 use Rattle.packet.specs.Write.{fields_wrong, packet_octets, WrotePacket}
 use Rattle.packet.specs.declared.Packet.{Packet}
-use Rattle.packet.specs.declared.PacketRead.{PacketRead}
-use Rattle.packet.specs.declared.PacketRead.TheVariants as read
+use Rattle.packet.specs.Answers.{PacketRead}
 use Rattle.packet.proofs.Back.{reads-back, writes-back}
 use Rattle.packet.proofs.Told.{told_apart}
 use Rattle.packet.proofs.Packet.read.Kinds as kread
@@ -43,7 +43,7 @@ format =
     record {
       wrong = λ p d. fields_wrong p (length d);
       octets = packet_octets;
-      accepting = read.Packet;
+      accepting = Ok;
       Writes = Writes;
       Reads = Reads;
       Finds = Finds;

@@ -4,7 +4,7 @@ use Prim.Native.Nat.{ℕ}
 use Rattle.octets.specs.Unique.{Fixes}
 use Rattle.octets.proofs.Fixed.{fixed, fixed_told}
 use Rattle.answer.proofs.Writer.{one_written}
-use Rattle.answer.specs.declared.Written.{Written}
+use Rattle.answer.specs.Writer.{Written}
 use Rattle.packet.specs.Packet.{told}
 use Rattle.packet.proofs.Told.{told_apart}
 use Rattle.packet.proofs.Packet.read.Kinds as kread

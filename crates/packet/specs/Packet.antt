@@ -1,17 +1,16 @@
 -- Document 01, 'The packet': what reading one gives.
-use Rattle.std.specs.Prelude.{ℕ, ◌+◌, ◌-◌, ◌/◌, ◌%◌, List, [], ◌∷◌, Bool, not, ◌||◌, length, ltb, eqb}
+use Rattle.std.specs.Prelude.{ℕ, ◌+◌, ◌-◌, ◌/◌, ◌%◌, List, [], ◌∷◌, Bool, not, ◌||◌, length, ltb, eqb, Ok, Err}
 use Rattle.octets.specs.Numbers.{at, word, five}
 use Rattle.octets.specs.Parts.{part}
 use Rattle.octets.specs.Pick.{pick}
-use Rattle.answer.specs.Told.{Told, accept, refuse, TellsNothing, NoneLeftOut}
+use Rattle.answer.specs.Told.{Told, accept, refuse, TellsNothing, NoneLeftOut, refuse_for}
 use Rattle.answer.specs.Refusals as refusal
 use Rattle.bits.specs.Rows.{zeros}
 use Rattle.bits.specs.Rows.Order.{high_first}
 use Rattle.crc.specs.Check.{check_wrong}
 use Rattle.packet.specs.Limits.{least_length, greatest_length, source_at}
 use Rattle.packet.specs.declared.Packet.{Packet}
-use Rattle.packet.specs.declared.PacketRead.{PacketRead}
-use Rattle.packet.specs.declared.PacketRead.TheVariants as read
+use Rattle.packet.specs.Answers.{PacketRead}
 
 -- Refusal 20: outside 16 to 251 octets, or not C + 7.
 unfoldable pub length_wrong : List ℕ → Bool
@@ -43,8 +42,8 @@ packet_numbers p = p.apid ∷ p.sequence.0 ∷ p.service ∷ p.subtype ∷ p.tim
 
 -- A reader's answer tells the fields, or the refusal and 0 in every field.
 abbrev pub told : PacketRead → Told Packet
-told (read.Packet p) = accept p
-told (read.Refused n) = refuse no_packet n
+told (Ok p) = accept p
+told (Err n) = refuse_for no_packet n
 
 abbrev pub RefusalsTellNothing : Type 0
 RefusalsTellNothing = NoneLeftOut packet_numbers × TellsNothing told packet_numbers

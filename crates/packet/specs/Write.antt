@@ -5,7 +5,7 @@ use Rattle.bits.specs.Rows.{zeros}
 use Rattle.bits.specs.Rows.Order.{high_first}
 use Rattle.crc.specs.Check.{with_check}
 use Rattle.answer.specs.Writer.{Wrote}
-use Rattle.answer.specs.declared.Written.{Written}
+use Rattle.answer.specs.Writer.{Written}
 use Rattle.packet.specs.Limits.{longest_source, last_apid, last_count, last_time}
 use Rattle.packet.specs.declared.Packet.{Packet}
 

@@ -11,7 +11,7 @@ ghost use Rattle.packet.specs.Write.{fields_wrong, header_of, packet_octets, Wro
 ghost use Rattle.packet.specs.Asked.{InRange, Room};
 ghost use Rattle.packet.specs.Limits.{least_length};
 
-use answer::Written;
+use answer::Reason;
 use counts::SequenceCount;
 
 // A packet's fields. The time is one count of 1/256 s; length is how many octets of source data there are.
@@ -23,13 +23,6 @@ pub struct Packet {
     pub subtype: u8,
     pub time: u64,
     pub length: usize,
-}
-
-// What reading gives: the packet's fields, or the refusal's number.
-#[derive(Clone, Copy)]
-pub enum PacketRead {
-    Packet(Packet),
-    Refused(u16),
 }
 
 // Refusal 20: outside 16 to 251 octets, or not C + 7.
@@ -91,16 +84,17 @@ fn header(p: Packet) -> [u8; 14]
     requires { InRange p p.length }
     ensures { result ≡ header_of p }
 {
-    let count = p.sequence.0;
-    let c = p.length + 9;
+    let apid = octets::word_octets(p.apid);
+    let count = octets::word_octets(p.sequence.0);
+    let behind = octets::word_octets((p.length + 9) as u16);
     let time = octets::five_octets(p.time);
     [
-        8 + (p.apid / 256) as u8,
-        (p.apid % 256) as u8,
-        192 + (count / 256) as u8,
-        (count % 256) as u8,
-        (c / 256) as u8,
-        (c % 256) as u8,
+        8 + apid[0],
+        apid[1],
+        192 + count[0],
+        count[1],
+        behind[0],
+        behind[1],
         16,
         p.service,
         p.subtype,
@@ -144,41 +138,40 @@ impl Packet {
     pub const LAST_TIME: u64 = 1099511627775;
 
     // The fields of the packet that octets are, or refusal 20, 21 or 22, the first that holds.
-    pub fn read(octets: &[u8]) -> PacketRead
+    pub fn read(octets: &[u8]) -> Result<Packet, Reason>
         ensures { told result ≡ read_packet octets.now }
     {
         if length_wrong(octets) {
-            return PacketRead::Refused(answer::PACKET_LENGTH);
+            return Err(Reason::PacketLength);
         }
         if check_wrong(octets) {
-            return PacketRead::Refused(answer::PACKET_CHECK);
+            return Err(Reason::PacketCheck);
         }
         if bits_wrong(octets) {
-            return PacketRead::Refused(answer::PACKET_BITS);
+            return Err(Reason::PacketBits);
         }
-        PacketRead::Packet(fields(octets))
+        Ok(fields(octets))
     }
 
     // The source data of the packet that octets are; none if they are too few.
     pub fn source(self, octets: &[u8]) -> &[u8]
         ensures { result.now ≡ source_of self octets.now }
     {
-        let n = self.length;
-        octets::part(octets, Packet::SOURCE, n)
+        octets::part(octets, Packet::SOURCE, self.length)
     }
 
     // The packet's octets at the start of out, and their number; else 51 or 50, and out stays.
-    pub fn write(self, source: &[u8], out: &mut [u8]) -> Written
+    pub fn write(self, source: &[u8], out: &mut [u8]) -> Result<usize, Reason>
         ensures { WrotePacket self source.now out.old result out.new }
     {
         let n = source.len();
         if fields_wrong(self, n) {
-            return Written::Refused(answer::FIELD_RANGE);
+            return Err(Reason::FieldRange);
         }
         if out.len() < n + Packet::LEAST {
-            return Written::Refused(answer::OUTPUT_SHORT);
+            return Err(Reason::OutputShort);
         }
         lay(self, source, out);
-        Written::Length(n + Packet::LEAST)
+        Ok(n + Packet::LEAST)
     }
 }

@@ -2,18 +2,15 @@
 // its octet.
 #![tactic(auto)]
 
-use greymap::{PictureRead, PictureWritten};
 use records::{input, places, text};
 
 // Puts a run into out from index at on, as far as there is room, and answers the index behind it.
 fn run(n: u32, out: &mut [u8], at: usize) -> usize {
     let octet = [(n % 256) as u8];
-    let mut left = n / 256;
     let mut end = at;
-    while 0 < left {
+    for _ in 0..n / 256 {
         octets::put(out, end, &octet);
-        end = std::num::wrapping_add_usize(end, 1);
-        left -= 1;
+        end = end.wrapping_add(1);
     }
     end
 }
@@ -21,22 +18,16 @@ fn run(n: u32, out: &mut [u8], at: usize) -> usize {
 // Puts runs at the start of out, as far as there is room, and answers how many octets they are.
 fn unfold(runs: &[u8], out: &mut [u8]) -> usize {
     let mut end = 0;
-    let mut at: usize = 0;
-    while at < runs.len() {
-        end = run(input::four(octets::part(runs, at, 4), 0), out, end);
-        at += 4;
+    for four in runs.chunks(4) {
+        end = run(input::four(four, 0), out, end);
     }
     end
 }
 
 // Puts numbers, each of four octets, into a list.
 fn number(numbers: &[u8], list: &mut [u32]) {
-    let mut at: usize = 0;
-    let mut i = 0;
-    while i < list.len() {
-        list[i] = input::four(octets::part(numbers, at, 4), 0);
-        at = std::num::wrapping_add_usize(at, 4);
-        i += 1;
+    for (i, entry) in list.iter_mut().enumerate() {
+        *entry = input::four(octets::part(numbers, i.wrapping_mul(4), 4), 0);
     }
 }
 
@@ -50,8 +41,8 @@ pub fn read(c: &[u8], image: &mut [u8], lines: &mut [u32]) {
         image,
         lines,
     ) {
-        PictureRead::Read => text::say(b"accepted"),
-        PictureRead::Refused(n) => text::field(b"refusal ", n as u64),
+        Ok(()) => text::say(b"accepted"),
+        Err(reason) => text::field(b"refusal ", reason.number() as u64),
     }
     text::check(b" image ", crc::packet_check(image));
     text::fours(b" lines", lines, 61166);
@@ -74,10 +65,10 @@ pub fn write(c: &[u8], grey: &mut [u8], lines: &mut [u32]) {
 
 fn written(image: &[u8], lines: &[u32], grey: &mut [u8], numbers: &mut [u8]) {
     match greymap::write(image, lines, grey, numbers) {
-        PictureWritten::Lengths(l) => {
+        Ok(l) => {
             text::tell(b"accepted lengths # #", &[l.grey as u64, l.text as u64]);
         }
-        PictureWritten::Refused(n) => text::field(b"refusal ", n as u64),
+        Err(reason) => text::field(b"refusal ", reason.number() as u64),
     }
     text::check(b" grey ", crc::packet_check(grey));
     text::lent(b" text ", numbers, 238);

@@ -5,19 +5,18 @@
 ghost use Rattle.std.specs.Prelude.{◌≡◌, take};
 ghost use Rattle.picture_frame.specs.Received.{received, image_in, leaving, all_placed, packets_in};
 
-use image::Placed;
-use report::{Content, Report, ReportRead};
+use answer::Reason;
+use report::{Content, Report};
 use session::Accepted;
 
 // The number of the image of which a packet brings a line; 0 of any other packet.
 fn image_in(packet: &[u8]) -> u16
     ensures { result ≡ image_in packet.now }
 {
-    let ReportRead::Report(report) = Report::read(packet) else {
+    let Ok(report) = Report::read(packet) else {
         return 0;
     };
-    let content = report.content;
-    let Content::Line(line) = content else {
+    let Content::Line(line) = report.content else {
         return 0;
     };
     line.image
@@ -37,11 +36,11 @@ fn place(
         ≡ leaving packet.now arrival wanted
         (received pixels.old lines.old refused.old images.old) }
 {
-    let Placed::Refused(n) = image::place(packet, arrival, wanted, pixels, lines) else {
+    let Err(reason) = image::place(packet, arrival, wanted, pixels, lines) else {
         return;
     };
-    telling::count(refused, n);
-    if n == answer::IMAGE_OTHER {
+    telling::count(refused, reason.number());
+    if let Reason::ImageOther = reason {
         picture_images::note(images, image_in(packet));
     }
 }
@@ -62,18 +61,20 @@ pub fn place_all(
         (received pixels.old lines.old refused.old images.old)
         (packets_in octets.now 0 (take accepted.packets lengths.now)) }
 {
-    let n = octets::wide(accepted.packets);
-    let arrival = accepted.arrival;
     let mut from = 0;
-    let mut i = 0;
-    while i < n {
-        if lengths.len() <= i {
-            return;
-        }
-        let size = lengths[i] as usize;
+    let listed = &lengths[..lengths.len().min(usize::from(accepted.packets))];
+    for &n in listed {
+        let size = usize::from(n);
         let packet = octets::part(octets, from, size);
-        place(packet, arrival, wanted, pixels, lines, refused, images);
+        place(
+            packet,
+            accepted.arrival,
+            wanted,
+            pixels,
+            lines,
+            refused,
+            images,
+        );
         from += size;
-        i += 1;
     }
 }

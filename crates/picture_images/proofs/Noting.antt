@@ -55,29 +55,15 @@ module _ (places : List ℕ) (image i : ℕ) (so_far : noted places image ≡ ta
 
 -- ---- how many there are
 
--- no place before index i is free
-module _ (places : List ℕ) (i : ℕ) (so_far : length (images_in places) ≡ i + length (images_in (drop i places))) where
-  at_place : i < length places → length (images_in (drop i places))
-      ≡ length (pick (eqb (at places i) 0) [] ((at places i - 1) ∷ images_in (drop (suc i) places)))
-  unfolding images_in
-  at_place h = ap (λ (l : List ℕ). length (images_in l)) (drop-cons places i 0 h)
-
-  pub free_here : i < length places → at places i ≡ 0 → i ≡ length (images_in places)
-  free_here h z =
-      sym (so_far ∙ ap (λ (k : ℕ). i + k) (at_place h ∙ ap length (sym (picked (eqb (at places i) 0) [] _ (eq-eqb _ _ z)))) ∙ add-zero i)
-
-  pub one_known : i < length places → (at places i ≡ 0 → ⊥) → length (images_in places) ≡ (i + 1) + length (images_in (drop (i + 1) places))
-  one_known h n =
-      let k : ℕ = length (images_in (drop (suc i) places)) in
-      let e : i + suc k ≡ (i + 1) + k = omega arith in
-      so_far ∙ ap (λ (j : ℕ). i + j)
-      (at_place h
-      ∙ ap length (sym (passed (eqb (at places i) 0) [] _ ((at places i - 1) ∷ images_in (drop (suc i) places)) (ne_eqb _ _ n) refl)))
-      ∙ e ∙ ap (λ (j : ℕ). (i + 1) + length (images_in (drop j places))) (sym (add-one i))
-
-  pub all_known : length places ≤ i → i ≡ length (images_in places)
-  unfolding images_in
-  all_known h = sym (so_far ∙ ap (λ (l : List ℕ). i + length (images_in l)) (drop_of_length-le places h) ∙ add-zero i)
+-- none before place r is free, and it is, if it is there
+pub known-at : (places : List ℕ) (r : ℕ) → r ≤ length places → ((k : ℕ) → k < r → at places k ≡ 0 → ⊥)
+    → (r < length places → at places r ≡ 0) → r ≡ length (images_in places)
+unfolding images_in
+known-at [] r h f g = omega arith
+known-at (p ∷ places) zero h f g = ap length (picked (eqb p 0) [] _ (eq-eqb p 0 (g (omega arith))))
+known-at (p ∷ places) (suc r) h f g =
+    ap suc (known-at places r (omega arith) (λ k l. f (suc k) (omega arith)) (λ l. g (omega arith)))
+    ∙ ap length (passed (eqb p 0) [] _ ((p - 1) ∷ images_in places) (ne_eqb p 0 (f 0 (omega arith))) refl)
 
 -- ---- which they are
 

@@ -23,23 +23,20 @@ const NAMED: usize = 16;
 pub fn note(images: &mut [u32], image: u16)
     ensures { images.new ≡ noted images.old image }
 {
-    let held = image as u32 + 1;
-    let mut i = 0;
-    while i < images.len() {
-        if images[i] == 0 {
-            images[i] = held;
+    let held = u32::from(image) + 1;
+    for place in images.iter_mut() {
+        if *place == 0 {
+            *place = held;
             return;
         }
-        if images[i] == held {
+        if *place == held {
             return;
         }
-        i += 1;
     }
 }
 
 // Puts the line, as it stands behind the program's name, at the start of out, and answers how many octets it has. With less than LINE
-// octets
-// there out stays, and the answer is 0.
+// octets there out stays, and the answer is 0.
 pub fn line(out: &mut [u8], wanted: u16, images: &[u32]) -> usize
     ensures { Puts longest_line (line_of wanted (images_in images.now)) out.old 0 out.new result }
 {
@@ -58,14 +55,10 @@ pub fn line(out: &mut [u8], wanted: u16, images: &[u32]) -> usize
 fn known(images: &[u32]) -> usize
     ensures { result ≡ length (images_in images.now) }
 {
-    let mut i = 0;
-    while i < images.len() {
-        if images[i] == 0 {
-            return i;
-        }
-        i += 1;
-    }
-    i
+    images
+        .iter()
+        .position(|place| *place == 0)
+        .unwrap_or(images.len())
 }
 
 // Puts a text at the start of out, and answers how many octets it has.
@@ -121,23 +114,11 @@ fn names(out: &mut [u8], at: usize, images: &[u32], named: usize, more: usize) -
         out.new result }
 {
     let mut next = at;
-    let mut i = 0;
-    while i < named {
-        let image = number(images[i]);
+    for (i, &place) in images[..named].iter().enumerate() {
+        let image = place.saturating_sub(1);
         next = name(out, next, image, named - 1 - i + more);
-        i += 1;
     }
     next
-}
-
-// The number of the image that a place holds.
-fn number(place: u32) -> u32
-    ensures { result ≡ place - 1 }
-{
-    if place == 0 {
-        return 0;
-    }
-    place - 1
 }
 
 // An image's number, with so many told behind it.

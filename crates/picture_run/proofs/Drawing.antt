@@ -1,4 +1,5 @@
 -- Both files of an image have room, and so nothing is refused.
+use Rattle.std.specs.Prelude.{Ok, Err}
 use Prim.Native.Nat.{ℕ, ◌*◌, ◌≤◌}
 use mathlib.Core.Path.{◌≡◌, refl, sym, ap, ◌∙◌}
 use mathlib.Core.List.{List, []}
@@ -12,13 +13,13 @@ use Rattle.octets.proofs.Choices.{passed}
 use Rattle.octets.proofs.Placing.{part-some}
 use Rattle.decimal.specs.Text.{longest_number}
 use Rattle.decimal.proofs.Short.{each-short}
+use Rattle.answer.specs.declared.Reason.{Reason}
 use Rattle.image.specs.Line.{image_lines, Image}
 use Rattle.greymap.specs.Outcome.{Outcome, accepted}
 use Rattle.greymap.specs.Picture.{newline, numbers_of, greymap_of, text_of, short}
 use Rattle.greymap.specs.Writing.{Outputs, outputs, lengths, told, observed, roomless, writing, Writes}
 use Rattle.greymap.specs.declared.Lengths.{Lengths}
-use Rattle.greymap.specs.declared.PictureWritten.{PictureWritten}
-use Rattle.greymap.specs.declared.PictureWritten.TheVariants as answers
+use Rattle.greymap.specs.Answers.{PictureWritten}
 use Rattle.greymap.proofs.Wrote.{greymap-length}
 use Rattle.picture_run.specs.Files.{Drawable, Drawn}
 
@@ -53,10 +54,10 @@ module _ (image : Image) (out : Outputs) (d : Drawable image out.grey out.text) 
       ∙ take-append_seam s (drop (length s) o)
 
   module _ {out' : Outputs} where
-    pub drawn : {r : PictureWritten} {l : Lengths} → r ≡ answers.Lengths l → Writes image out r out' → Drawn image l out'.grey
+    pub drawn : {r : PictureWritten} {l : Lengths} → r ≡ Ok l → Writes image out r out' → Drawn image l out'.grey
         out'.text
     drawn {r} {l} e w =
-        let o : observed (answers.Lengths l) out' ≡ accepted (lengths (length (greymap_of image)) (length (text_of image.lines)))
+        let o : observed (Ok l) out' ≡ accepted (lengths (length (greymap_of image)) (length (text_of image.lines)))
         (outputs (written (greymap_of image) out.grey) (written (text_of image.lines) out.text)) = ap
         (λ (x : PictureWritten). observed x out') (sym e) ∙ w ∙ sym both in
         record {
@@ -66,7 +67,7 @@ module _ (image : Image) (out : Outputs) (d : Drawable image out.grey out.text) 
               (ap (λ (x : Outcome Lengths Outputs). x.answer.fields.text) o);
         }
 
-    pub never_refused : {r : PictureWritten} {n : ℕ} → r ≡ answers.Refused n → Writes image out r out' → ⊥
+    pub never_refused : {r : PictureWritten} {n : Reason} → r ≡ Err n → Writes image out r out' → ⊥
     never_refused {r} {n} e w =
         let o : observed r out' ≡ accepted (lengths (length (greymap_of image)) (length (text_of image.lines)))
         (outputs (written (greymap_of image) out.grey) (written (text_of image.lines) out.text)) = w ∙ sym both in

@@ -1,4 +1,5 @@
 -- What a turn gathers, and what the whole comes to from there on.
+use Rattle.std.specs.Prelude.{Ok, Err}
 use Prim.Native.Nat.{ℕ, ◌+◌, ◌-◌, ◌≤◌}
 use mathlib.Core.Path.{◌≡◌, refl, sym, ap, ◌∙◌, subst}
 use mathlib.Core.List.{List, [], ◌∷◌, ◌++◌, map, append_assoc, append-nil}
@@ -16,7 +17,7 @@ use Rattle.rules.specs.Channel.{Handed}
 use Rattle.rules.specs.Packets.{bare, joined}
 use Rattle.rules.specs.Bounds.{Under}
 use Rattle.source.specs.Found.{Item, opens, offers, Found, found_in, cut_at}
-use Rattle.source.specs.Scan.{scanned, kept_by, tells, Over, Finds}
+use Rattle.source.specs.Scan.{scanned, kept_by, tells, Finds}
 use Rattle.source.specs.Scan.{Told as ToldBy}
 use Rattle.source.proofs.Scanning.{scans_find}
 use Rattle.source.specs.declared.Scanned.{Scanned}
@@ -27,10 +28,8 @@ use Rattle.session.specs.Open.{opening}
 use Rattle.session.specs.Lent.{Lent, Enough}
 use Rattle.session.specs.Step.{Outcome}
 use Rattle.session.specs.Statements.{offered}
-use Rattle.session.specs.declared.Accepted.{Accepted}
 use Rattle.session.specs.declared.Session.{Session}
-use Rattle.session.specs.declared.StepAnswer.{StepAnswer}
-use Rattle.session.specs.declared.StepAnswer.TheVariants as answer
+use Rattle.session.specs.Answers.{StepAnswer}
 use Rattle.session.proofs.Few.{Few, offer-few}
 use Rattle.receiver.specs.Receive.{Tells, missing, bad, over, opened, nothing, answered, told_of, heard, Receives}
 use Rattle.receiver.specs.Receive.{received as receipt}
@@ -120,11 +119,11 @@ module _ (wanted : ℕ) (ps : List Handed) (octets lengths : List ℕ) (g : Gath
   answer-told : (a : StepAnswer) → Few_told (told_of (event.Answered a)) ps
       → with_pull wanted (pull.Answered a) octets' lengths' g ≡ with_tells wanted (told_of (event.Answered a)) ps g
   unfolding pick
-  answer-told (answer.Accepted a) f =
+  answer-told (Ok a) f =
       ap (λ (x : List (List ℕ)). record { received = all_placed a.arrival wanted g.received x; frames = g.frames })
       (laid-packets ps octets lengths a.packets f.0)
       ∙ ap (λ (x : Received). record { received = x; frames = g.frames }) (one-arrival wanted a.arrival g.received ps f.1)
-  answer-told (answer.Refused r) f =
+  answer-told (Err r) f =
       ap (λ (x : List Handed). record { received = handed_placed wanted g.received x; frames = counted g.frames r.number })
       (no_packets ps f.0)
 

@@ -1,4 +1,5 @@
 -- What each function of a turn gathers, and the turn.
+use Rattle.std.specs.Prelude.{Ok, Err}
 use Prim.Native.Nat.{ℕ}
 use mathlib.Core.Path.{◌≡◌, refl, sym, ap, ◌∙◌}
 use mathlib.Core.List.{List, [], ◌∷◌, ◌++◌, append_assoc}
@@ -13,13 +14,10 @@ use Rattle.octets.specs.Pick.{pick}
 use Rattle.octets.proofs.Choices.{picks}
 use Rattle.answer.specs.declared.Refusal.{Refusal}
 use Rattle.source.specs.Found.{cut_at}
-use Rattle.source.specs.Scan.{tells, Over}
 use Rattle.source.specs.declared.Source.{Source}
 use Rattle.session.specs.Lent.{Lent, Enough}
 use Rattle.session.specs.declared.Accepted.{Accepted}
-use Rattle.session.specs.declared.StepAnswer.{StepAnswer}
-use Rattle.session.specs.declared.StepAnswer.TheVariants as answer
-use Rattle.receiver.specs.Receive.{bad}
+use Rattle.session.specs.Answers.{StepAnswer}
 use Rattle.receiver.specs.declared.Receiver.{Receiver}
 use Rattle.receiver.specs.declared.Event.{Event}
 use Rattle.receiver.specs.declared.Event.TheVariants as event
@@ -40,13 +38,13 @@ use Rattle.picture_run.proofs.Gathering.{next, from-there, gathers, ends}
 
 -- by what was pulled
 module _ (wanted : ℕ) (octets lengths : List ℕ) (r : Received) where
-  pub some-placed : {p : Pull} {x : StepAnswer} {a : Accepted} {r' : Received} → p ≡ pull.Answered x → x ≡ answer.Accepted a
+  pub some-placed : {p : Pull} {x : StepAnswer} {a : Accepted} {r' : Received} → p ≡ pull.Answered x → x ≡ Ok a
       → r' ≡ all_placed a.arrival wanted r (packets_in octets 0 (take a.packets lengths)) → r' ≡ pull_placed wanted p octets lengths r
   some-placed h k e =
       e ∙ ap (λ (x : StepAnswer). pull_placed wanted (pull.Answered x) octets lengths r) (sym k)
       ∙ ap (λ (p : Pull). pull_placed wanted p octets lengths r) (sym h)
 
-  pub refused-placed : {p : Pull} {x : StepAnswer} {y : Refusal} → p ≡ pull.Answered x → x ≡ answer.Refused y
+  pub refused-placed : {p : Pull} {x : StepAnswer} {y : Refusal} → p ≡ pull.Answered x → x ≡ Err y
       → r ≡ pull_placed wanted p octets lengths r
   refused-placed h k =
       ap (λ (x : StepAnswer). pull_placed wanted (pull.Answered x) octets lengths r) (sym k)
@@ -62,12 +60,12 @@ module _ (wanted : ℕ) (octets lengths : List ℕ) (r : Received) where
   none-placed pull.Failed k = refl
 
 module _ (frames : List ℕ) where
-  pub one-counted : {p : Pull} {x : StepAnswer} {y : Refusal} {frames' : List ℕ} → p ≡ pull.Answered x → x ≡ answer.Refused y
+  pub one-counted : {p : Pull} {x : StepAnswer} {y : Refusal} {frames' : List ℕ} → p ≡ pull.Answered x → x ≡ Err y
       → frames' ≡ counted frames y.number → frames' ≡ pull_counted p frames
   one-counted h k e =
       e ∙ ap (λ (x : StepAnswer). pull_counted (pull.Answered x) frames) (sym k) ∙ ap (λ (p : Pull). pull_counted p frames) (sym h)
 
-  pub accepted-counted : {p : Pull} {x : StepAnswer} {a : Accepted} → p ≡ pull.Answered x → x ≡ answer.Accepted a
+  pub accepted-counted : {p : Pull} {x : StepAnswer} {a : Accepted} → p ≡ pull.Answered x → x ≡ Ok a
       → frames ≡ pull_counted p frames
   accepted-counted h k =
       ap (λ (x : StepAnswer). pull_counted (pull.Answered x) frames) (sym k) ∙ ap (λ (p : Pull). pull_counted p frames) (sym h)

@@ -1,16 +1,14 @@
 -- What the whole loop gathers, and what is written then.
-use Prim.Native.Nat.{ℕ, suc, ◌+◌, ◌-◌, ◌≤◌, ◌<◌}
+use Prim.Native.Nat.{ℕ, ◌+◌, ◌-◌, ◌≤◌}
 use mathlib.Core.Path.{◌≡◌, refl, sym, ap, ◌∙◌, subst}
 use mathlib.Core.List.{List, [], ◌++◌, append_assoc, append-nil}
-use mathlib.Core.Bool.{Bool, true, false, ◌&&◌, ◌||◌, true≢false}
+use mathlib.Core.Bool.{Bool, true, false, ◌||◌, true≢false}
 use native.Mathlib.Omega.{arith}
-use native.Mathlib.Numerals.{add-one}
 use lib.Dec.{ltb}
 use lib.IntN.{ℤ}
-use lib.ListN.{length, drop, replicate, drop_of_length-le, length-append}
-use lib.Seq.{drop-cons, take_all, take-append_seam}
-use borrow.Author.Tests.{eq-eqb, ne_eqb, le-ltb}
-use Rattle.octets.specs.Numbers.{at}
+use lib.ListN.{length, drop, replicate, length-append}
+use lib.Seq.{take_all, take-append_seam}
+use borrow.Author.Tests.{le-ltb}
 use Rattle.octets.specs.Parts.{part}
 use Rattle.octets.proofs.Choices.{picked, passed, not_picked}
 use Rattle.octets.proofs.Placing.{part-some}
@@ -100,19 +98,6 @@ begun {wanted} a {input = input} {kept} {l} {g} {n} {p} e x =
 -- all of some octets
 pub whole-hand : (l : List ℕ) → hand l 0 (length l) ≡ l
 whole-hand l = take_all (length l - 0) l (omega arith)
-
--- the numbers before i are none
-pub none-at : (l : List ℕ) (i : ℕ) → i < length l → at l i ≡ 0 → no_line (drop i l) ≡ no_line (drop (i + 1) l)
-none-at l i h z =
-    ap no_line (drop-cons l i 0 h)
-    ∙ ap (λ (b : Bool). b && no_line (drop (suc i) l)) (eq-eqb (at l i) 0 z)
-    ∙ ap (λ (k : ℕ). no_line (drop k l)) (sym (add-one i))
-
-pub some_at : (l : List ℕ) (i : ℕ) → i < length l → (at l i ≡ 0 → ⊥) → no_line l ≡ no_line (drop i l) → false ≡ no_line l
-some_at l i h z e = sym (e ∙ ap no_line (drop-cons l i 0 h) ∙ ap (λ (b : Bool). b && no_line (drop (suc i) l)) (ne_eqb (at l i) 0 z))
-
-pub none_left : (l : List ℕ) (i : ℕ) → length l ≤ i → no_line l ≡ no_line (drop i l) → true ≡ no_line l
-none_left l i h e = sym (e ∙ ap no_line (drop_of_length-le l h))
 
 -- what is done at the end
 module _ (lines : Bool) (wanted : ℕ) (r : Stopped) (image : Image) (images : List ℕ) {w : Written} (u : w ≡ unwritten) where

@@ -1,6 +1,6 @@
 -- What the octets of a recording or a stream leave of an image, of the counts of what is refused, and of the images of which other lines
 -- came.
-use Rattle.std.specs.Prelude.{ℕ, ◌≡◌, List, [], ◌∷◌, ◌++◌, Bool, true, false, take}
+use Rattle.std.specs.Prelude.{ℕ, ◌≡◌, List, [], ◌∷◌, ◌++◌, Bool, true, false, take, Ok, Err}
 use Rattle.octets.specs.Pick.{pick}
 use Rattle.answer.specs.Told.{Told}
 use Rattle.rules.specs.Channel.{Handed}
@@ -10,7 +10,6 @@ use Rattle.session.specs.Lent.{Lent}
 use Rattle.session.specs.Statements.{offered}
 use Rattle.session.specs.declared.Accepted.{Accepted}
 use Rattle.session.specs.declared.Session.{Session}
-use Rattle.session.specs.declared.StepAnswer.TheVariants as answer
 use Rattle.receiver.specs.Receive.{Tells, missing, bad, over, opened, nothing, answered}
 use Rattle.receiver.specs.Receive.{received as receipt}
 use Rattle.receiver.specs.Run.{roomy, handed_in}
@@ -71,9 +70,9 @@ with_tells wanted (answered t) ps g = with_step wanted t ps g
 abbrev pub pull_placed : ℕ → Pull → List ℕ → List ℕ → Received → Received
 pull_placed wanted pull.More octets lengths r = r
 pull_placed wanted pull.Opened octets lengths r = r
-pull_placed wanted (pull.Answered (answer.Accepted a)) octets lengths r =
+pull_placed wanted (pull.Answered (Ok a)) octets lengths r =
     all_placed a.arrival wanted r (packets_in octets 0 (take a.packets lengths))
-pull_placed wanted (pull.Answered (answer.Refused x)) octets lengths r = r
+pull_placed wanted (pull.Answered (Err x)) octets lengths r = r
 pull_placed wanted pull.Bad octets lengths r = r
 pull_placed wanted pull.End octets lengths r = r
 pull_placed wanted pull.Cut octets lengths r = r
@@ -83,8 +82,8 @@ pull_placed wanted pull.Failed octets lengths r = r
 abbrev pub pull_counted : Pull → List ℕ → List ℕ
 pull_counted pull.More frames = frames
 pull_counted pull.Opened frames = frames
-pull_counted (pull.Answered (answer.Accepted a)) frames = frames
-pull_counted (pull.Answered (answer.Refused r)) frames = counted frames r.number
+pull_counted (pull.Answered (Ok a)) frames = frames
+pull_counted (pull.Answered (Err r)) frames = counted frames r.number
 pull_counted pull.Bad frames = frames
 pull_counted pull.End frames = frames
 pull_counted pull.Cut frames = frames

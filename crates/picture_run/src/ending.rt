@@ -7,7 +7,7 @@ ghost use Rattle.picture_run.specs.Files.{Drawable, Drawn, shown_of, no_line};
 ghost use Rattle.picture_run.specs.Whole.{broke, Finished, status_of};
 
 use crate::Stopped;
-use greymap::{Lengths, PictureWritten};
+use greymap::Lengths;
 use window::Written;
 
 // What was done at the end: whether no line was received, how many octets were told of that, and what was written.
@@ -83,14 +83,7 @@ pub(crate) fn status(stopped: Stopped, ended: Ended) -> i32
 fn none_received(numbers: &[u32]) -> bool
     ensures { result ≡ no_line numbers.now }
 {
-    let mut i = 0;
-    while i < numbers.len() {
-        if numbers[i] != 0 {
-            return false;
-        }
-        i += 1;
-    }
-    true
+    numbers.iter().all(|&number| number == 0)
 }
 
 // Tells which images' lines were received instead, and answers in how many octets.
@@ -152,8 +145,8 @@ fn draw(pixels: &[u8], numbers: &[u32], out: &mut [u8], text: &mut [u8]) -> Leng
     ensures { Drawn (image_of pixels.now numbers.now) result out.new text.new }
 {
     match greymap::write(pixels, numbers, out, text) {
-        PictureWritten::Lengths(lengths) => lengths,
-        PictureWritten::Refused(_) => Lengths { grey: 0, text: 0 },
+        Ok(lengths) => lengths,
+        Err(_) => Lengths { grey: 0, text: 0 },
     }
 }
 

@@ -12,7 +12,6 @@ ghost use Rattle.picture_run.specs.Whole.{black, unnoted, start_of, Looped, Show
 
 use feed::{Feed, Pull};
 use receiver::Receiver;
-use session::StepAnswer;
 use stretch::KEPT;
 use window::Refilled;
 
@@ -228,7 +227,7 @@ fn count_frame(pull: Pull, frames: &mut [u64])
     let Pull::Answered(answer) = pull else {
         return;
     };
-    let StepAnswer::Refused(refusal) = answer else {
+    let Err(refusal) = answer else {
         return;
     };
     telling::count(frames, refusal.number);
@@ -252,7 +251,7 @@ fn place_packets(
     let Pull::Answered(answer) = pull else {
         return;
     };
-    let StepAnswer::Accepted(accepted) = answer else {
+    let Ok(accepted) = answer else {
         return;
     };
     picture_frame::place_all(

@@ -9,14 +9,14 @@ use lib.Dec.{ltb, eqb}
 use borrow.Author.Tests.{ltb-true, lt-ltb, eqb-true, eq-eqb, ne_eqb, not-true}
 use Rattle.octets.specs.Pick.{pick}
 use Rattle.octets.proofs.Tests.{and_true_left, and_true_right}
-use Rattle.answer.specs.Refusals.{stretch_octets, stretch_abandoned}
+use Rattle.answer.specs.declared.Reason.TheVariants.{StretchOctets, StretchAbandoned}
 use Rattle.bits.specs.Rows.{bits_of, bits_of_all}
 use Rattle.bits.specs.Rows.Order.{high_first}
 use Rattle.stretch.specs.Stretch.{Stretch, clipped, told, Fits}
 use Rattle.stretch.specs.declared.Found.{Found}
 use Rattle.stretch.specs.declared.Found.TheVariants.{Nothing, Frame, Refused}
 use Rattle.rawbits.specs.Recording.{stretches_in}
-use Rattle.rawbits.specs.Reader.{Standing, standing, row, added, stored, begun, ends, closed, five, with_one, after_one}
+use Rattle.rawbits.specs.Reader.{Standing, standing, added, stored, begun, ends, closed, five, with_one, after_one}
 use Rattle.rawbits.specs.Reader.{after_zero, after, Passing, passed, octet_passed, Outcome, further, nothing, scanned}
 use Rattle.rawbits.specs.Finding.{told_by, told_of, to_find, ScansFind, FindsStream, Scans, none, more, PiecesGiveTheWhole}
 use Rattle.rawbits.specs.declared.Reader.{Reader}
@@ -205,7 +205,7 @@ unfolding closed pick
 fits-closed kept a = go (not a.seen) a.abandoned (not (eqb a.mark 0)) (eqb a.row.whole 0)
   where
     go : (s t u v : Bool) → Fits (pick s Nothing
-        (pick t (Refused stretch_abandoned) (pick u (Refused stretch_octets) (pick v Nothing (Frame (min a.row.whole (length kept)))))))
+        (pick t (Refused StretchAbandoned) (pick u (Refused StretchOctets) (pick v Nothing (Frame (min a.row.whole (length kept)))))))
         kept
     go true t u v = tt
     go false true u v = tt

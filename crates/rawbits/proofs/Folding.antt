@@ -11,6 +11,7 @@ use borrow.Author.Tests.{lt-ltb, eq-eqb, ne_eqb, eqb-true, eqb-false}
 use Rattle.octets.specs.Pick.{pick}
 use Rattle.bits.specs.Rows.{ones}
 use Rattle.answer.specs.Refusals.{stretch_octets, stretch_abandoned}
+use Rattle.answer.specs.declared.Reason.TheVariants.{StretchOctets, StretchAbandoned}
 use Rattle.stretch.specs.Stretch.{Stretch, found, unread, most_kept, clipped, told}
 use Rattle.stretch.specs.declared.Found.TheVariants.{Nothing, Frame, Refused}
 use Rattle.rawbits.specs.Recording.{pieces, stretches, abandoned, destuffed, octets_of, left, stretch_of}
@@ -191,14 +192,14 @@ module _ (q : List Bool) (r : Row) (kept : List ℕ) (h : Holds r kept (destuffe
 
   -- of all that is left of the stretch
   tells-left : 0 < length (destuffed 0 q)
-      → told (pick (not (eqb (length (destuffed 0 q) % 8) 0)) (Refused stretch_octets)
+      → told (pick (not (eqb (length (destuffed 0 q) % 8) 0)) (Refused StretchOctets)
       (pick (eqb r.whole 0) Nothing (Frame (min r.whole (length kept))))) kept
       ≡ clipped (left (destuffed 0 q)) ∷ []
   unfolding pick left
   tells-left s = go (eqb (length (destuffed 0 q) % 8) 0) refl
     where
       go : (t : Bool) → eqb (length (destuffed 0 q) % 8) 0 ≡ t
-          → told (pick (not t) (Refused stretch_octets) (pick (eqb r.whole 0) Nothing (Frame (min r.whole (length kept))))) kept
+          → told (pick (not t) (Refused StretchOctets) (pick (eqb r.whole 0) Nothing (Frame (min r.whole (length kept))))) kept
           ≡ clipped (pick t (found (octets_of (destuffed 0 q))) (unread stretch_octets)) ∷ []
       go true e = tells-whole (eqb-true _ _ e) s
       go false e = refl
@@ -218,8 +219,8 @@ tells true (b ∷ q) r kept h = go (abandoned (b ∷ q))
   where
     go : (t : Bool)
         → told
-        (pick t (Refused stretch_abandoned)
-        (pick (not (eqb (length (destuffed 0 (b ∷ q)) % 8) 0)) (Refused stretch_octets)
+        (pick t (Refused StretchAbandoned)
+        (pick (not (eqb (length (destuffed 0 (b ∷ q)) % 8) 0)) (Refused StretchOctets)
         (pick (eqb r.whole 0) Nothing (Frame (min r.whole (length kept)))))) kept
         ≡ clipped (pick t (unread stretch_abandoned) (left (destuffed 0 (b ∷ q)))) ∷ []
     go true = refl

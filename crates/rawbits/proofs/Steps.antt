@@ -11,7 +11,7 @@ use borrow.Author.Tests.{lt-ltb, le-ltb, eq-eqb, ne_eqb}
 use Rattle.octets.specs.Pick.{pick}
 use Rattle.bits.specs.Rows.{digit}
 use Rattle.bits.proofs.Numbers.{digit_lt}
-use Rattle.answer.specs.Refusals.{stretch_octets, stretch_abandoned}
+use Rattle.answer.specs.declared.Reason.TheVariants.{StretchOctets, StretchAbandoned}
 use Rattle.stretch.specs.declared.Found.{Found}
 use Rattle.stretch.specs.declared.Found.TheVariants.{Nothing, Frame, Refused}
 use Rattle.rawbits.specs.Reader.{Standing, standing, row, counted, added, stored, begun, closed, five, after_one, after_zero}
@@ -54,12 +54,12 @@ module _ (most : ℕ) (a : Reader) where
   closes_unseen e = simp e
 
   module _ (s : not a.seen ≡ false) where
-    pub closes_abandoned : a.abandoned ≡ true → Refused stretch_abandoned ≡ closed most a
+    pub closes_abandoned : a.abandoned ≡ true → Refused StretchAbandoned ≡ closed most a
     unfolding closed pick
     closes_abandoned e = simp (s, e)
 
     module _ (t : a.abandoned ≡ false) where
-      pub closes_odd : not (eqb a.mark 0) ≡ true → Refused stretch_octets ≡ closed most a
+      pub closes_odd : not (eqb a.mark 0) ≡ true → Refused StretchOctets ≡ closed most a
       unfolding closed pick
       closes_odd e = simp (s, t, e)
 

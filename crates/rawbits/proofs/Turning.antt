@@ -13,7 +13,7 @@ use Rattle.bits.specs.Rows.{odd, bits_of}
 use Rattle.bits.specs.Rows.Order.{high_first}
 use Rattle.stretch.specs.declared.Found.{Found}
 use Rattle.stretch.specs.declared.Found.TheVariants.{Nothing}
-use Rattle.rawbits.specs.Reader.{Standing, standing, Passing, passed, octet_passed}
+use Rattle.rawbits.specs.Reader.{Standing, Passing, passed, octet_passed}
 
 -- the octet with its first i bits gone
 abbrev pub shifted : ℕ → ℕ → ℕ

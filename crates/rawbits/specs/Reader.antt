@@ -4,7 +4,7 @@ use mathlib.Core.List.{List, [], ◌∷◌, foldl}
 use Rattle.octets.specs.Pick.{pick}
 use Rattle.bits.specs.Rows.{digit, bits_of}
 use Rattle.bits.specs.Rows.Order.{high_first}
-use Rattle.answer.specs.Refusals.{stretch_octets, stretch_abandoned}
+use Rattle.answer.specs.declared.Reason.TheVariants.{StretchOctets, StretchAbandoned}
 use Rattle.stretch.specs.declared.Found.{Found}
 use Rattle.stretch.specs.declared.Found.TheVariants.{Nothing, Frame, Refused}
 use Rattle.rawbits.specs.declared.Row.{Row}
@@ -61,8 +61,8 @@ ends a b = not b && eqb a.ones 6
 unfoldable pub closed : ℕ → Reader → Found
 closed most a =
     pick (not a.seen) Nothing
-    (pick a.abandoned (Refused stretch_abandoned)
-    (pick (not (eqb a.mark 0)) (Refused stretch_octets)
+    (pick a.abandoned (Refused StretchAbandoned)
+    (pick (not (eqb a.mark 0)) (Refused StretchOctets)
     (pick (eqb a.row.whole 0) Nothing (Frame (min a.row.whole most)))))
 
 -- Of the frame five bits have come.

@@ -5,8 +5,9 @@ ghost use Rattle.std.specs.Prelude.{◌≡◌, true, false, length, set, ◌*◌
 ghost use Rattle.bits.specs.Rows.{digit};
 ghost use Rattle.rawbits.specs.Eight.{eight_passed, Eights};
 ghost use Rattle.rawbits.specs.Reader.{standing, counted, added, stored, begun, fresh, closed, after, passing, passed, octet_passed};
-ghost use Rattle.rawbits.specs.Reader.{nothing, outcome, scanned};
+ghost use Rattle.rawbits.specs.Reader.{outcome, scanned};
 
+use answer::Reason;
 use stretch::{Found, KEPT};
 
 mod table;
@@ -69,17 +70,6 @@ fn keep(kept: &mut [u8], at: usize, octet: u8) -> usize
     at
 }
 
-// Whether nothing was found.
-fn nothing(found: Found) -> bool
-    ensures { result ≡ nothing found }
-{
-    match found {
-        Found::Nothing => true,
-        Found::Frame(_) => false,
-        Found::Refused(_) => false,
-    }
-}
-
 impl Row {
     // One bit more. The octet that it makes whole goes to kept, if there is room.
     fn add(self, bit: bool, kept: &mut [u8]) -> Row
@@ -133,25 +123,19 @@ impl Reader {
     fn closed(self, most: usize) -> Found
         ensures { result ≡ closed most self }
     {
-        let whole = self.row.whole;
-        let odd = self.mark != 0;
-        let abandoned = self.abandoned;
         if !self.seen {
             return Found::Nothing;
         }
-        if abandoned {
-            return Found::Refused(answer::STRETCH_ABANDONED);
+        if self.abandoned {
+            return Found::Refused(Reason::StretchAbandoned);
         }
-        if odd {
-            return Found::Refused(answer::STRETCH_OCTETS);
+        if self.mark != 0 {
+            return Found::Refused(Reason::StretchOctets);
         }
-        if whole == 0 {
+        if self.row.whole == 0 {
             return Found::Nothing;
         }
-        if whole < most {
-            return Found::Frame(whole);
-        }
-        Found::Frame(most)
+        Found::Frame(self.row.whole.min(most))
     }
 
     // A 1.
@@ -239,13 +223,11 @@ impl Reader {
         let mut reader = self;
         let mut found = Found::Nothing;
         let mut rest = octet;
-        let mut i: u8 = 0;
-        while i < 8 {
+        for _ in 0..8u8 {
             let next = reader.bit(128 <= rest, found, kept);
             reader = next.reader;
             found = next.found;
             rest = rest % 128 * 2;
-            i += 1;
         }
         Passed { reader, found }
     }
@@ -255,7 +237,7 @@ impl Reader {
         requires { Eights eights.now }
         ensures { passing result kept.new ≡ octet_passed (standing self kept.old) octet }
     {
-        let entry = eights[octets::wide(octet)];
+        let entry = eights[usize::from(octet)];
         if ((self.ones as u16) + entry / 4096 < 5) & (self.row.begun < 8) {
             let reader = self.eight(entry, kept);
             return Passed {
@@ -274,23 +256,21 @@ impl Reader {
     {
         let eights = table::EIGHTS;
         let mut reader = self;
-        let mut i = 0;
-        while i < window.len() {
-            let next = reader.octet(window[i], &eights, kept);
+        for (i, &octet) in window.iter().enumerate() {
+            let next = reader.octet(octet, &eights, kept);
             let found = next.found;
             reader = next.reader;
-            i += 1;
-            if !nothing(found) {
+            if !matches!(found, Found::Nothing) {
                 return Scanned {
                     reader,
-                    used: i,
+                    used: i + 1,
                     found,
                 };
             }
         }
         Scanned {
             reader,
-            used: i,
+            used: window.len(),
             found: Found::Nothing,
         }
     }

@@ -1,4 +1,5 @@
 -- What a writer answers and leaves, at each of its ends.
+use Rattle.std.specs.Prelude.{Ok, Err}
 use Prim.Native.Nat.{ℕ, ◌≤◌}
 use mathlib.Core.Path.{◌≡◌, sym, ap₂, ◌∙◌}
 use mathlib.Core.Bool.{Bool, true, false, ◌||◌}
@@ -8,8 +9,7 @@ use lib.Dec.{ltb}
 use borrow.Author.Tests.{ltb-true, ltb-false, eqb-true, not-false}
 use Rattle.octets.specs.Parts.{written}
 use Rattle.octets.proofs.Tests.{or_left, or_right}
-use Rattle.answer.specs.Refusals as no
-use Rattle.answer.specs.declared.Written.TheVariants.{Length, Refused}
+use Rattle.answer.specs.declared.Reason.TheVariants.{FieldRange, OutputShort}
 use Rattle.answer.proofs.Writer.{refused_51, refused_50, wrote}
 use Rattle.rules.specs.Packets.{cut, total}
 use Rattle.lengths.specs.Lengths.{lengths_wrong}
@@ -27,7 +27,7 @@ module _ (d ns out : List ℕ) {a b : Bool} (e : a ≡ any_outside ns) (f : b �
   says : (a || b) ≡ frames_wrong d ns
   says = ap₂ (λ (x y : Bool). x || y) e f
 
-  pub refuses_51 : (a || b) ≡ true → WroteFrames d ns out (Refused no.field_range) out
+  pub refuses_51 : (a || b) ≡ true → WroteFrames d ns out (Err FieldRange) out
   refuses_51 h = refused_51 says h
 
   module _ (h : (a || b) ≡ false) where
@@ -35,7 +35,7 @@ module _ (d ns out : List ℕ) {a b : Bool} (e : a ≡ any_outside ns) (f : b �
     asks = good-frames d ns (sym says ∙ h)
 
     module _ {s : Bool} (g : s ≡ ltb (length out) (length (stream_of (cut d ns)))) where
-      pub refuses_50 : s ≡ true → WroteFrames d ns out (Refused no.output_short) out
+      pub refuses_50 : s ≡ true → WroteFrames d ns out (Err OutputShort) out
       refuses_50 k = refused_50 says h (ltb-true (length out) (length (stream_of (cut d ns))) (sym g ∙ k))
 
       module _ (k : s ≡ false) where
@@ -46,5 +46,5 @@ module _ (d ns out : List ℕ) {a b : Bool} (e : a ≡ any_outside ns) (f : b �
         asks_room = record { adds = asks.adds; room = room }
 
         pub writes : {n : ℕ} {out' : List ℕ} → (n ≡ length (stream_of (cut d ns))) × (out' ≡ written (stream_of (cut d ns)) out)
-            → WroteFrames d ns out (Length n) out'
+            → WroteFrames d ns out (Ok n) out'
         writes x = wrote says h room x.0 x.1

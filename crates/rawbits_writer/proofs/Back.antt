@@ -1,4 +1,5 @@
 -- A reader of raw bits finds the frames again that were written.
+use Rattle.std.specs.Prelude.{Ok}
 use Prim.Native.Nat.{ℕ, zero, suc, ◌+◌, ◌-◌, ◌*◌, ◌/◌, ◌%◌, ◌≤◌, ◌<◌}
 use mathlib.Core.Path.{◌≡◌, refl, sym, ap, ap₂, subst, ◌∙◌}
 use mathlib.Core.Bool.{Bool, true, false}
@@ -18,7 +19,6 @@ use Rattle.bits.specs.Field.{high_number, row_of}
 use Rattle.bits.proofs.Numbers.{number-bits}
 use Rattle.bits.proofs.Field.{rows_in}
 use Rattle.answer.specs.Writer.{writing}
-use Rattle.answer.specs.declared.Written.TheVariants.{Length}
 use Rattle.answer.proofs.Told.{refuse_or_accept, same-fields}
 use Rattle.answer.proofs.Writer.{gives}
 use Rattle.frame.specs.Limits.{least_length, greatest_length}
@@ -151,7 +151,7 @@ unfolding writing
 calls-found-again d ns out n out' small x =
     let a = not_picked (frames_wrong d ns) _ _ _ (sym x.answers) refuse_or_accept in
     let b = not_picked (ltb (length out) (length (stream_of (cut d ns)))) _ _ _ a.1 refuse_or_accept in
-    let g = gives (frames_wrong d ns) (stream_of (cut d ns)) out (Length n) out' a.0
+    let g = gives (frames_wrong d ns) (stream_of (cut d ns)) out (Ok n) out' a.0
     (ltb-false (length out) (length (stream_of (cut d ns))) b.0) x in
     let f = good-frames d ns a.0 in
     let r = all_sound d ns small f.adds f.inside in

@@ -2,7 +2,7 @@
 use Prim.Native.Nat.{ℕ}
 use mathlib.Core.List.{List}
 use Rattle.octets.specs.Unique.{Fixes}
-use Rattle.answer.specs.declared.Written.{Written}
+use Rattle.answer.specs.Writer.{Written}
 use Rattle.answer.proofs.Writer.{one_written}
 use Rattle.rawbits_writer.proofs.write.Kinds as kwrite
 use Rattle.rawbits_writer.proofs.write.Reads as rwrite

@@ -1,7 +1,6 @@
 -- A reader of raw bits finds the frames again that were written.
-use Rattle.std.specs.Prelude.{ℕ, ◌<◌, ◌≡◌, false, List, [], ◌∷◌, map, take}
+use Rattle.std.specs.Prelude.{ℕ, ◌<◌, ◌≡◌, false, List, [], ◌∷◌, map, take, Ok}
 use Rattle.octets.specs.Numbers.{at}
-use Rattle.answer.specs.declared.Written.TheVariants.{Length}
 use Rattle.rules.specs.Packets.{cut}
 use Rattle.stretch.specs.Stretch.{Stretch, found}
 use Rattle.rawbits.specs.Recording.{flag, contains, stretches_in}
@@ -26,4 +25,4 @@ pub record Holds (stream : List ℕ) (frames : List (List ℕ)) : Type 0 where
 abbrev pub CallsFoundAgain : Type 0
 CallsFoundAgain =
     (octets lengths out : List ℕ) (n : ℕ) (out' : List ℕ) → ((i : ℕ) → at octets i < 256)
-    → WroteFrames octets lengths out (Length n) out' → Holds (take n out') (cut octets lengths)
+    → WroteFrames octets lengths out (Ok n) out' → Holds (take n out') (cut octets lengths)

@@ -4,7 +4,7 @@ use Rattle.bits.specs.Rows.{zeros, bits_of_all}
 use Rattle.bits.specs.Rows.Order.{low_first}
 use Rattle.bits.specs.Field.{octets_in}
 use Rattle.answer.specs.Writer.{Wrote}
-use Rattle.answer.specs.declared.Written.{Written}
+use Rattle.answer.specs.Writer.{Written}
 use Rattle.frame.specs.Limits.{least_length, greatest_length}
 use Rattle.rules.specs.Packets.{cut}
 use Rattle.lengths.specs.Lengths.{lengths_wrong}

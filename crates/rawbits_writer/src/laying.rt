@@ -66,34 +66,25 @@ impl Pen {
     {
         let mut pen = self;
         let mut rest = octet;
-        let mut i: u8 = 0;
-        while i < 8 {
+        for _i in 0..8u8 {
             pen = pen.bit(rest % 2 == 1);
-            rest = rest / 2;
-            i += 1;
+            rest /= 2;
         }
         pen
     }
 
     // Of the bits held those that fill octets go to out.
-    fn drain(self, out: &mut [u8]) -> Pen
+    fn drain(mut self, out: &mut [u8]) -> Pen
         requires { Room self out.old [] }
         ensures { Writes self out.old [] self.ones result out.new }
     {
-        let held = self.held;
-        let mut at = self.at;
-        let mut bits = self.bits;
-        while 8 <= bits {
-            bits -= 8;
-            out[at] = ((held >> bits) % 256) as u8;
-            at += 1;
+        while 8 <= self.bits {
+            self.bits -= 8;
+            out[self.at] = ((self.held >> self.bits) % 256) as u8;
+            self.at += 1;
         }
-        Pen {
-            at,
-            held: held % 128,
-            bits,
-            ones: self.ones,
-        }
+        self.held %= 128;
+        self
     }
 
     // The octets of a frame.
@@ -102,11 +93,8 @@ impl Pen {
         ensures { Writes self out.old (body_from self frame.now) result.ones result out.new }
     {
         let mut pen = self;
-        let mut i = 0;
-        while i < frame.len() {
-            let next = pen.octet(frame[i]);
-            pen = next.drain(out);
-            i += 1;
+        for &octet in frame {
+            pen = pen.octet(octet).drain(out);
         }
         pen
     }
@@ -143,12 +131,10 @@ fn measured(frame: &[u8]) -> usize
 {
     let mut count: usize = 0;
     let mut ones: u8 = 0;
-    let mut i = 0;
-    while i < frame.len() {
-        let pen = Pen::new(ones).octet(frame[i]);
-        count += pen.bits as usize;
+    for &octet in frame {
+        let pen = Pen::new(ones).octet(octet);
+        count += usize::from(pen.bits);
         ones = pen.ones;
-        i += 1;
     }
     count
 }
@@ -164,9 +150,8 @@ pub(crate) fn short(octets: &[u8], lengths: &[u16], room: usize) -> bool
     let mut left = room - 1;
     let mut part: usize = 0;
     let mut at = 0;
-    let mut i = 0;
-    while i < lengths.len() {
-        let next = at + lengths[i] as usize;
+    for &length in lengths {
+        let next = at + usize::from(length);
         let bits = part + measured(&octets[at..next]) + 8;
         let whole = bits / 8;
         if left < whole {
@@ -175,7 +160,6 @@ pub(crate) fn short(octets: &[u8], lengths: &[u16], room: usize) -> bool
         left -= whole;
         part = bits % 8;
         at = next;
-        i += 1;
     }
     (left == 0) & (part != 0)
 }
@@ -188,15 +172,10 @@ pub(crate) fn lay(octets: &[u8], lengths: &[u16], out: &mut [u8]) -> usize
 {
     let mut pen = Pen::new(0);
     let mut at = 0;
-    let mut i = 0;
-    while i < lengths.len() {
-        let next = at + lengths[i] as usize;
-        let behind = pen.flag(out);
-        pen = behind.body(&octets[at..next], out);
+    for &length in lengths {
+        let next = at + usize::from(length);
+        pen = pen.flag(out).body(&octets[at..next], out);
         at = next;
-        i += 1;
     }
-    let last = pen.flag(out);
-    let end = last.fill(out);
-    end.at
+    pen.flag(out).fill(out).at
 }

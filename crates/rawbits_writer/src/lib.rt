@@ -4,7 +4,7 @@
 ghost use Rattle.std.specs.Prelude.{◌≡◌};
 ghost use Rattle.rawbits_writer.specs.Stream.{any_outside, WroteFrames};
 
-use answer::Written;
+use answer::Reason;
 use frame::Frame;
 
 mod laying;
@@ -13,29 +13,19 @@ mod laying;
 fn any_outside(lengths: &[u16]) -> bool
     ensures { result ≡ any_outside lengths.now }
 {
-    let mut i = 0;
-    while i < lengths.len() {
-        let n = lengths[i] as usize;
-        if (n < Frame::LEAST) | (Frame::GREATEST < n) {
-            return true;
-        }
-        i += 1;
-    }
-    false
+    lengths.iter().any(|n| (usize::from(*n) < Frame::LEAST) | (Frame::GREATEST < usize::from(*n)))
 }
 
 // The stream of frames, which stand end to end with their lengths, at the start of out, and its length; beyond it out stays. Refusal 51: a
 // length outside 23 to 274, or lengths that don't add up to the octets; then 50: out too short. Then out stays whole.
-pub fn write(octets: &[u8], lengths: &[u16], out: &mut [u8]) -> Written
+pub fn write(octets: &[u8], lengths: &[u16], out: &mut [u8]) -> Result<usize, Reason>
     ensures { WroteFrames octets.now lengths.now out.old result out.new }
 {
-    let outside = any_outside(lengths);
-    let wrong = lengths::wrong(lengths, octets.len());
-    if outside | wrong {
-        return Written::Refused(answer::FIELD_RANGE);
+    if any_outside(lengths) | lengths::wrong(lengths, octets.len()) {
+        return Err(Reason::FieldRange);
     }
     if laying::short(octets, lengths, out.len()) {
-        return Written::Refused(answer::OUTPUT_SHORT);
+        return Err(Reason::OutputShort);
     }
-    Written::Length(laying::lay(octets, lengths, out))
+    Ok(laying::lay(octets, lengths, out))
 }

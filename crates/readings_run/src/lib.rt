@@ -4,7 +4,6 @@
 
 ghost use Rattle.std.specs.Prelude.{◌≡◌, slice_set};
 
-use layouts::LayoutsRead;
 use loading::Loaded;
 use receiver::Receiver;
 
@@ -51,11 +50,11 @@ fn given(
         &mut froms,
         &mut tos,
     ) {
-        LayoutsRead::Wrong(line, fault) => {
+        Err((line, fault)) => {
             loading::wrong(name, path, line, fault);
             window::AGAINST
         }
-        LayoutsRead::Layouts(n, entries) => {
+        Ok((n, entries)) => {
             end_last(&mut starts, n, entries);
             if loading::unusable(name, path, text, &starts, n, &froms, &tos) {
                 return window::AGAINST;

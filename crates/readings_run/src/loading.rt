@@ -1,7 +1,6 @@
 // The layouts' file: read whole, and what is wrong with it told.
 ghost use Rattle.readings_run.specs.Text.{Ends};
 
-use layout_names::Repeat;
 use layouts::Fault;
 use std::fs::File;
 use std::io::Read;
@@ -121,8 +120,8 @@ pub(crate) fn unusable(
         return true;
     }
     match layout_names::repeated(text, starts, n, froms, tos) {
-        Repeat::Nothing => false,
-        Repeat::Entry(k) => {
+        None => false,
+        Some(k) => {
             repeated(name, path, text, froms, k);
             true
         }
@@ -131,10 +130,9 @@ pub(crate) fn unusable(
 
 // Says that the name of entry k stands before it in its layout.
 fn repeated(name: &[u8], path: &[u8], text: &[u8], froms: &[usize], k: usize) {
-    if k < froms.len() {
-        let from = froms[k];
+    if let Some(&from) = froms.get(k) {
         let before = layout_names::lines(octets::part(text, 0, from));
-        numbered(name, path, std::num::wrapping_add_u64(before as u64, 1));
+        numbered(name, path, (before as u64).wrapping_add(1));
         says(b"a name that stands before it in this layout\n");
     }
 }

@@ -1,4 +1,5 @@
 -- Laws of what is told by the feed, and of the text before a read.
+use Rattle.std.specs.Prelude.{Ok, Err}
 use Prim.Native.Nat.{ℕ, ◌%◌, ◌^◌, ◌≤◌, ◌<◌}
 use native.Mathlib.Nat.{mod-eq_of_lt, add-zero}
 use native.Mathlib.Omega.{arith}
@@ -13,8 +14,7 @@ use denote.Enum.Declared.{tag_of}
 use Rattle.answer.specs.declared.Refusal.{Refusal}
 use Rattle.session.specs.Lent.{lent}
 use Rattle.session.specs.declared.Accepted.{Accepted}
-use Rattle.session.specs.declared.StepAnswer.{StepAnswer}
-use Rattle.session.specs.declared.StepAnswer.TheVariants as answer
+use Rattle.session.specs.Answers.{StepAnswer}
 use Rattle.feed.specs.declared.Pull.{Pull}
 use Rattle.feed.specs.declared.Pull.TheVariants as pull
 use Rattle.feed.specs.contracts.Pull.{the_type}
@@ -37,14 +37,14 @@ follows pull.End k = absurd (miss (0 ∷ 1 ∷ 2 ∷ []) 4 tt k)
 follows pull.Cut k = absurd (miss (0 ∷ 1 ∷ 2 ∷ []) 5 tt k)
 follows pull.Failed k = absurd (miss (0 ∷ 1 ∷ 2 ∷ []) 6 tt k)
 
-ends : (p : Pull) → OneOf (3 ∷ 4 ∷ 5 ∷ 6 ∷ []) (tag_of the_type p) → false ≡ may_follow p
-ends pull.More k = absurd (miss (3 ∷ 4 ∷ 5 ∷ 6 ∷ []) 0 tt k)
-ends pull.Opened k = absurd (miss (3 ∷ 4 ∷ 5 ∷ 6 ∷ []) 1 tt k)
-ends (pull.Answered a) k = absurd (miss (3 ∷ 4 ∷ 5 ∷ 6 ∷ []) 2 tt k)
-ends pull.Bad k = refl
-ends pull.End k = refl
-ends pull.Cut k = refl
-ends pull.Failed k = refl
+ends : (p : Pull) → (p ≡ pull.More → ⊥) → (p ≡ pull.Opened → ⊥) → ((a : StepAnswer) → p ≡ pull.Answered a → ⊥) → false ≡ may_follow p
+ends pull.More a b c = absurd (a refl)
+ends pull.Opened a b c = absurd (b refl)
+ends (pull.Answered x) a b c = absurd (c x refl)
+ends pull.Bad a b c = refl
+ends pull.End a b c = refl
+ends pull.Cut a b c = refl
+ends pull.Failed a b c = refl
 
 module _ (p : Pull) {f b : Bool} (e : b ≡ f) where
   pub stops : b ≡ true → false ≡ goes_on p f
@@ -53,8 +53,9 @@ module _ (p : Pull) {f b : Bool} (e : b ≡ f) where
   pub may_follow_lem : b ≡ false → OneOf (0 ∷ 1 ∷ 2 ∷ []) (tag_of the_type p) → true ≡ goes_on p f
   may_follow_lem h k = follows p k ∙ ap (goes_on p) (sym h ∙ e)
 
-  pub at-end : b ≡ false → OneOf (3 ∷ 4 ∷ 5 ∷ 6 ∷ []) (tag_of the_type p) → false ≡ goes_on p f
-  at-end h k = ends p k ∙ ap (goes_on p) (sym h ∙ e)
+  pub at-end : b ≡ false → (p ≡ pull.More → ⊥) → (p ≡ pull.Opened → ⊥) → ((a : StepAnswer) → p ≡ pull.Answered a → ⊥)
+      → false ≡ goes_on p f
+  at-end h k m n = ends p k m n ∙ ap (goes_on p) (sym h ∙ e)
 
 -- ---- what is told
 
@@ -62,9 +63,9 @@ same_number : {n : ℕ} → n < 2 ^ 64 → n ≡ numbered n 0
 same_number {n} h = sym (ap (λ (k : ℕ). k % 2 ^ 64) (add-zero n) ∙ mod-eq_of_lt h)
 
 module _ (l : Layouts) {octets lengths firsts out counts : List ℕ} {s : State} where
-  pub quiet-heeded : (p : Pull) → OneOf (0 ∷ 1 ∷ 3 ∷ 4 ∷ 5 ∷ 6 ∷ []) (tag_of the_type p) → s.packets < 2 ^ 64
+  pub quiet-heeded : (p : Pull) → ((a : StepAnswer) → p ≡ pull.Answered a → ⊥) → s.packets < 2 ^ 64
       → Heeds l p (lent octets lengths firsts) out counts s out counts s
-  quiet-heeded (pull.Answered a) k h = absurd (miss (0 ∷ 1 ∷ 3 ∷ 4 ∷ 5 ∷ 6 ∷ []) 2 tt k)
+  quiet-heeded (pull.Answered a) k h = absurd (k a refl)
   quiet-heeded pull.More k h = record { packets = same_number h; leaves = nothing_put refl }
   quiet-heeded pull.Opened k h = record { packets = same_number h; leaves = nothing_put refl }
   quiet-heeded pull.Bad k h = record { packets = same_number h; leaves = nothing_put refl }
@@ -73,14 +74,14 @@ module _ (l : Layouts) {octets lengths firsts out counts : List ℕ} {s : State}
   quiet-heeded pull.Failed k h = record { packets = same_number h; leaves = nothing_put refl }
 
   module _ {p : Pull} {x : StepAnswer} (e : p ≡ pull.Answered x) where
-    pub refused-heeded : {r : Refusal} {counts' : List ℕ} → x ≡ answer.Refused r → counts' ≡ counted counts r.number
+    pub refused-heeded : {r : Refusal} {counts' : List ℕ} → x ≡ Err r → counts' ≡ counted counts r.number
         → s.packets < 2 ^ 64
         → Heeds l p (lent octets lengths firsts) out counts s out counts' s
     refused-heeded {r} {counts'} k c h =
         subst (λ (q : Pull). Heeds l q (lent octets lengths firsts) out counts s out counts' s) (sym (e ∙ ap pull.Answered k))
         (record { packets = same_number h; leaves = nothing_put c })
 
-    pub accepted-heeded : {a : Accepted} {out' counts' : List ℕ} {s' : State} → x ≡ answer.Accepted a
+    pub accepted-heeded : {a : Accepted} {out' counts' : List ℕ} {s' : State} → x ≡ Ok a
         → Framed l a octets lengths firsts out counts s out' counts' s'
         → Heeds l p (lent octets lengths firsts) out counts s out' counts' s'
     accepted-heeded {a} {out'} {counts'} {s'} k f =
@@ -98,14 +99,14 @@ bad-is pull.End k = absurd (miss (3 ∷ 5 ∷ []) 4 tt k)
 bad-is pull.Cut k = refl
 bad-is pull.Failed k = absurd (miss (3 ∷ 5 ∷ []) 6 tt k)
 
-pub bad_not : (p : Pull) → OneOf (0 ∷ 1 ∷ 2 ∷ 4 ∷ 6 ∷ []) (tag_of the_type p) → false ≡ is_bad p
-bad_not pull.More k = refl
-bad_not pull.Opened k = refl
-bad_not (pull.Answered a) k = refl
-bad_not pull.Bad k = absurd (miss (0 ∷ 1 ∷ 2 ∷ 4 ∷ 6 ∷ []) 3 tt k)
-bad_not pull.End k = refl
-bad_not pull.Cut k = absurd (miss (0 ∷ 1 ∷ 2 ∷ 4 ∷ 6 ∷ []) 5 tt k)
-bad_not pull.Failed k = refl
+pub bad_not : (p : Pull) → (p ≡ pull.Bad → ⊥) → (p ≡ pull.Cut → ⊥) → false ≡ is_bad p
+bad_not pull.More a b = refl
+bad_not pull.Opened a b = refl
+bad_not (pull.Answered x) a b = refl
+bad_not pull.Bad a b = absurd (a refl)
+bad_not pull.End a b = refl
+bad_not pull.Cut a b = absurd (b refl)
+bad_not pull.Failed a b = refl
 
 -- ---- before a read
 

@@ -1,9 +1,8 @@
 -- What a turn of the program adds to the readings' text, and what it counts.
-use Rattle.std.specs.Prelude.{ℕ, ◌≤◌, ◌<◌, ◌≡◌, Bool, true, false, List, [], ◌++◌, length, drop, ltb}
+use Rattle.std.specs.Prelude.{ℕ, ◌≤◌, ◌<◌, ◌≡◌, Bool, true, false, List, [], ◌++◌, length, drop, ltb, Ok, Err}
 use Rattle.octets.specs.Pick.{pick}
 use Rattle.session.specs.Lent.{Lent}
-use Rattle.session.specs.declared.StepAnswer.{StepAnswer}
-use Rattle.session.specs.declared.StepAnswer.TheVariants as answer
+use Rattle.session.specs.Answers.{StepAnswer}
 use Rattle.receiver.specs.Receive.{Receives}
 use Rattle.receiver.specs.declared.Receiver.{Receiver}
 use Rattle.receiver.specs.declared.Received.{Received}
@@ -25,13 +24,13 @@ use Rattle.readings_turn.specs.declared.Standing.{Standing}
 
 -- An accepted frame adds its packets; a refusal is counted by its number.
 abbrev pub answer_adds : Layouts → StepAnswer → Lent → ℕ → List ℕ → Added
-answer_adds l (answer.Accepted a) t packets counts = frame_adds l a t.octets t.lengths t.firsts packets counts
-answer_adds l (answer.Refused r) t packets counts = adding [] (counted counts r.number)
+answer_adds l (Ok a) t packets counts = frame_adds l a t.octets t.lengths t.firsts packets counts
+answer_adds l (Err r) t packets counts = adding [] (counted counts r.number)
 
 -- How many packets it hands out.
 abbrev pub answer_hands : StepAnswer → ℕ
-answer_hands (answer.Accepted a) = a.packets
-answer_hands (answer.Refused r) = 0
+answer_hands (Ok a) = a.packets
+answer_hands (Err r) = 0
 
 -- What a call of the feed tells: only an answer adds or counts anything.
 abbrev pub pull_adds : Layouts → Pull → Lent → ℕ → List ℕ → Added

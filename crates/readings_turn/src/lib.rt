@@ -44,22 +44,18 @@ impl Stopped {
     pub fn failed(self) -> bool
         ensures { result ≡ failed_in self.standing.state.output }
     {
-        let standing = self.standing;
-        let state = standing.state;
-        state.failed()
+        self.standing.state.failed()
     }
 
     // The exit status: whether a read or a write failed, and then whether the recording is bad.
     pub fn status(self) -> i32
         ensures { result ≡ status_of self.standing }
     {
-        let standing = self.standing;
-        let read = standing.read;
-        let unfinished = read.failed() | standing.going;
+        let unfinished = self.standing.read.failed() | self.standing.going;
         if self.failed() | unfinished {
             return window::BROKEN;
         }
-        if standing.bad {
+        if self.standing.bad {
             return window::AGAINST;
         }
         window::DONE
@@ -95,9 +91,7 @@ pub fn report(
         first, fresh,
     );
     let mut standing = stopped.standing;
-    let last = standing.state;
-    let state = last.written(name, out);
-    standing.state = state;
+    standing.state = standing.state.written(name, out);
     Stopped {
         standing,
         made: stopped.made,
@@ -132,9 +126,8 @@ fn turns(
     let mut lengths = [0u16; Session::LENGTHS];
     let mut firsts = [0u32; Session::FIRSTS];
     let mut standing = begins(fresh, first);
-    let mut made: u64 = 0;
-    while standing.going {
-        if made == TURNS {
+    for made in 0..TURNS {
+        if !standing.going {
             return Stopped { standing, made };
         }
         standing = turn(
@@ -157,25 +150,24 @@ fn turns(
             counts,
             standing,
         );
-        made += 1;
     }
-    Stopped { standing, made }
+    Stopped {
+        standing,
+        made: TURNS,
+    }
 }
 
 // Nothing is read yet; after a write that failed no turn is made.
 fn begins(fresh: Receiver, first: State) -> Standing
     ensures { result ≡ begins fresh first }
 {
-    let feed = Feed::fresh();
-    let read = Refilled::none();
-    let going = !first.failed();
     Standing {
-        feed,
+        feed: Feed::fresh(),
         receiver: fresh,
         state: first,
-        read,
+        read: Refilled::none(),
         bad: false,
-        going,
+        going: !first.failed(),
     }
 }
 
@@ -207,30 +199,42 @@ fn turn(
         out.old counts.old result input.new kept.new
         (lent octets.new lengths.new firsts.new) out.new counts.new }
 {
-    let feed = before.feed;
-    let receiver = before.receiver;
-    let state = before.state;
-    let pulled = feed.pull(
-        name, descriptor, input, receiver, kept, octets, lengths, firsts,
+    let pulled = before.feed.pull(
+        name,
+        descriptor,
+        input,
+        before.receiver,
+        kept,
+        octets,
+        lengths,
+        firsts,
     );
-    let next = pulled.feed;
-    let received = pulled.receiver;
-    let read = pulled.read;
-    let pull = pulled.pull;
     let heard = section::heed(
-        name, pull, octets, lengths, firsts, text, apids, sids, starts, n, codes, froms, tos, out,
-        counts, state,
+        name,
+        pulled.pull,
+        octets,
+        lengths,
+        firsts,
+        text,
+        apids,
+        sids,
+        starts,
+        n,
+        codes,
+        froms,
+        tos,
+        out,
+        counts,
+        before.state,
     );
-    let hand = window::hand(input, next.at, next.end);
+    let hand = window::hand(input, pulled.feed.at, pulled.feed.end);
     let after = section::before_a_read(name, out, hand.len(), heard);
-    let going = section::may_go_on(pull, after);
-    let bad = section::is_bad(pull);
     Standing {
-        feed: next,
-        receiver: received,
+        feed: pulled.feed,
+        receiver: pulled.receiver,
         state: after,
-        read,
-        bad,
-        going,
+        read: pulled.read,
+        bad: section::is_bad(pulled.pull),
+        going: section::may_go_on(pulled.pull, after),
     }
 }

@@ -7,7 +7,6 @@ ghost use Rattle.readings_turn.specs.Turns.{is_bad, goes_on, Heeds, Clears};
 
 use feed::Pull;
 use readings_frame::State;
-use session::StepAnswer;
 
 // With so many octets at hand the recording goes on without a read.
 const SECTION: usize = 1026;
@@ -74,11 +73,11 @@ pub(crate) fn heed(
         return state;
     };
     match answer {
-        StepAnswer::Refused(r) => {
+        Err(r) => {
             telling::count(counts, r.number);
             state
         }
-        StepAnswer::Accepted(a) => readings_frame::frame(
+        Ok(a) => readings_frame::frame(
             name, a, octets, lengths, firsts, text, apids, sids, starts, n, codes, froms, tos, out,
             counts, state,
         ),

@@ -6,7 +6,7 @@ use Rattle.octets.proofs.Choices.{picked, passed}
 use Rattle.answer.specs.Told.{accept, refuse}
 use Rattle.answer.specs.Refusals.{time_length}
 use Rattle.session.specs.Open.{Opening, opening}
-use Rattle.session.specs.declared.OpenAnswer.{OpenAnswer}
+use Rattle.session.specs.Answers.{OpenAnswer}
 use Rattle.session.proofs.Told.{open_told_apart}
 use Rattle.source.specs.declared.Source.{Source}
 use Rattle.receiver.specs.Receive.{fresh_stream, Begins, TimeRefused}

@@ -1,12 +1,12 @@
 -- What is offered of what was found.
 use Prim.Native.Nat.{ℕ, ◌+◌, ◌-◌, ◌≤◌, ◌<◌}
-use mathlib.Core.Path.{◌≡◌, refl, sym, ap, ◌∙◌}
+use mathlib.Core.Path.{◌≡◌, sym, ap, subst, ◌∙◌}
+use mathlib.Core.Logic.{◌⊎◌, inl, inr}
 use mathlib.Core.List.{List, [], ◌∷◌}
 use native.Mathlib.Omega.{arith}
 use lib.ListN.{length, take, drop}
-use types.Run.{OneOf, miss}
+use types.Run.{OneOf, hit, miss}
 use denote.Enum.Declared.{tag_of}
-use Rattle.octets.specs.Parts.{part}
 use Rattle.octets.proofs.Placing.{part-some}
 use Rattle.stretch.specs.Stretch.{Stretch, found, unread}
 use Rattle.source.specs.Scan.{Told, Finds}
@@ -15,54 +15,18 @@ use Rattle.source.specs.declared.Scanned.{Scanned}
 use Rattle.source.specs.declared.Taken.{Taken}
 use Rattle.source.specs.declared.Taken.TheVariants as taken
 use Rattle.source.specs.contracts.Taken.{the_type}
-use Rattle.receiver.specs.Receive.{frame_of, stretch_of}
+use Rattle.receiver.specs.Receive.{stretch_of}
 
 -- a frame in the window, a frame that was kept, or a stretch that was refused
 abbrev pub Offered : Taken → Type 0
 Offered t = OneOf (5 ∷ 6 ∷ 7 ∷ []) (tag_of the_type t)
 
--- all but a stretch that was refused
-abbrev pub Framed : Taken → Type 0
-Framed t = OneOf (0 ∷ 1 ∷ 2 ∷ 3 ∷ 4 ∷ 5 ∷ 6 ∷ []) (tag_of the_type t)
-
--- ---- the frame's octets
-
-pub no_octets : (w : List ℕ) {x : List ℕ} → x ≡ part w 0 0 → x ≡ []
-no_octets w e = e ∙ sym (part-some w 0 0 (omega arith))
-
-module _ (kept w : List ℕ) where
-  pub frame_here : {t : Taken} {from to : ℕ} {x : List ℕ} → t ≡ taken.Here from to → x ≡ part w from (to - from) → x ≡ frame_of kept w t
-  frame_here e d = d ∙ sym (ap (frame_of kept w) e)
-
-  -- none, where it ends before it begins
-  pub frame-none : {t : Taken} {from to : ℕ} {x : List ℕ} → t ≡ taken.Here from to → to < from → x ≡ part w from 0 → x ≡ frame_of kept w t
-  frame-none {from = from} {to} e h d =
-      let n : 0 ≡ to - from = omega arith in
-      frame_here e (d ∙ ap (part w from) n)
-
-  pub frame-kept : {t : Taken} {n : ℕ} {x : List ℕ} → t ≡ taken.Kept n → x ≡ part kept 0 n → x ≡ frame_of kept w t
-  frame-kept e d = d ∙ sym (ap (frame_of kept w) e)
-
-  pub no_frame_lem : (t : Taken) → OneOf (0 ∷ 1 ∷ 2 ∷ 3 ∷ 4 ∷ 7 ∷ []) (tag_of the_type t) → frame_of kept w t ≡ []
-  no_frame_lem (taken.Missing n) k = refl
-  no_frame_lem taken.Bad k = refl
-  no_frame_lem taken.Over k = refl
-  no_frame_lem (taken.Opened t) k = refl
-  no_frame_lem taken.Nothing k = refl
-  no_frame_lem (taken.Here from to) k = absurd (miss (0 ∷ 1 ∷ 2 ∷ 3 ∷ 4 ∷ 7 ∷ []) 5 tt k)
-  no_frame_lem (taken.Kept n) k = absurd (miss (0 ∷ 1 ∷ 2 ∷ 3 ∷ 4 ∷ 7 ∷ []) 6 tt k)
-  no_frame_lem (taken.Refused n) k = refl
-
-  -- what was not refused is a frame
-  pub not_refused : (t : Taken) → Framed t → found (frame_of kept w t) ≡ stretch_of kept w t
-  not_refused (taken.Missing n) k = refl
-  not_refused taken.Bad k = refl
-  not_refused taken.Over k = refl
-  not_refused (taken.Opened t) k = refl
-  not_refused taken.Nothing k = refl
-  not_refused (taken.Here from to) k = refl
-  not_refused (taken.Kept n) k = refl
-  not_refused (taken.Refused n) k = absurd (miss (0 ∷ 1 ∷ 2 ∷ 3 ∷ 4 ∷ 5 ∷ 6 ∷ []) 7 tt k)
+pub offered : {t : Taken}
+    → ((from : ℕ) × (to : ℕ) × (t ≡ taken.Here from to)) ⊎ (((n : ℕ) × (t ≡ taken.Kept n)) ⊎ ((n : ℕ) × (t ≡ taken.Refused n)))
+    → Offered t
+offered (inl h) = subst Offered (sym h.2) (hit (5 ∷ 6 ∷ 7 ∷ []) 5 tt)
+offered (inr (inl h)) = subst Offered (sym h.1) (hit (5 ∷ 6 ∷ 7 ∷ []) 6 tt)
+offered (inr (inr h)) = subst Offered (sym h.1) (hit (5 ∷ 6 ∷ 7 ∷ []) 7 tt)
 
 -- ---- what a scan found
 

@@ -2,7 +2,7 @@
 use Prim.Native.Nat.{ℕ, ◌≤◌}
 use mathlib.Core.Path.{◌≡◌, refl, sym, ap, ◌∙◌, subst}
 use mathlib.Core.List.{List}
-use Rattle.stretch.specs.Stretch.{Stretch, found}
+use Rattle.stretch.specs.Stretch.{Stretch}
 use Rattle.source.specs.Scan.{kept_by, Scans, Told}
 use Rattle.source.proofs.Scanning.{scans_find}
 use Rattle.source.specs.declared.Source.{Source}
@@ -15,13 +15,13 @@ use Rattle.session.specs.Step as session
 use Rattle.session.specs.Statements.{offered}
 use Rattle.session.specs.declared.Session.{Session}
 use Rattle.session.specs.declared.Stepped.{Stepped}
-use Rattle.receiver.specs.Receive.{told_of, answered, Heard, quiet, answered_by, heard, fresh_stream, frame_of, stretch_of, Offers}
+use Rattle.receiver.specs.Receive.{told_of, answered, Heard, quiet, answered_by, heard, fresh_stream, stretch_of, Offers}
 use Rattle.receiver.specs.Receive.{Receipt, receipt, received, Gives, Receives}
 use Rattle.receiver.specs.declared.Receiver.{Receiver}
 use Rattle.receiver.specs.declared.Received.{Received}
 use Rattle.receiver.specs.declared.Event.{Event}
 use Rattle.receiver.specs.declared.Event.TheVariants as event
-use Rattle.receiver.proofs.Offering.{Offered, Framed, by_offer, not_refused}
+use Rattle.receiver.proofs.Offering.{Offered, by_offer}
 
 abbrev receiver : Source → Session → Receiver
 receiver s z = record { source = s; session = z }
@@ -91,14 +91,3 @@ module _ (z : Session) {s : Source} {kept w : List ℕ} {q : Scanned} {kept' : L
         by_outcome refl
         (sym (by_offer (scans_find.finds x) k (heard z kept' w l) (λ (y : Stretch). answered_by (offered z y l))
         (λ from to. refl) (λ n. refl) (λ n. refl))) g
-
--- ---- an offer
-
-module _ (z : Session) (kept w : List ℕ) {l l' : Lent} {r : Stepped} (t : Taken) where
-  pub offers-refused : {n : ℕ} → t ≡ taken.Refused n → session.TurnsAway z n l r l' → Offers z (stretch_of kept w t) l r l'
-  offers-refused e g = subst (λ (y : Taken). Offers z (stretch_of kept w y) l r l') (sym e) g
-
-  pub offers-frame : Framed t → {x : List ℕ} → x ≡ frame_of kept w t → session.Steps z x l r l'
-      → Offers z (stretch_of kept w t) l r l'
-  offers-frame k e g =
-      subst (λ (y : Stretch). Offers z y l r l') (ap found e ∙ not_refused kept w t k) g

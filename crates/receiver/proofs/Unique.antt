@@ -1,4 +1,5 @@
 -- No second result satisfies a contract of this crate's public functions.
+use Rattle.std.specs.Prelude.{Ok, Err}
 use Prim.Native.Nat.{ℕ}
 use mathlib.Core.Path.{◌≡◌, refl, sym, ap, ◌∙◌}
 use mathlib.Core.List.{List}
@@ -9,8 +10,7 @@ use Rattle.answer.specs.Told.{Told}
 use Rattle.session.specs.Lent.{Lent, lent}
 use Rattle.session.specs.Step.{told}
 use Rattle.session.specs.declared.Accepted.{Accepted}
-use Rattle.session.specs.declared.StepAnswer.{StepAnswer}
-use Rattle.session.specs.declared.StepAnswer.TheVariants as steps
+use Rattle.session.specs.Answers.{StepAnswer}
 use Rattle.session.specs.declared.Stepped.{Stepped}
 use Rattle.session.proofs.Told.{one-stepped}
 use Rattle.receiver.specs.Receive.{Tells, missing, bad, over, opened, nothing, answered, told_of, Receipt, Gives}
@@ -41,12 +41,12 @@ bits_fixed κs a x y s t p q = one-begun p q
 
 -- the answer that tells so, and the event
 answer_of : Told Accepted → StepAnswer
-answer_of t = pick t.accepted (steps.Accepted t.fields) (steps.Refused (record { number = t.refusal; octet = t.octet }))
+answer_of t = pick t.accepted (Ok t.fields) (Err (record { number = t.refusal; octet = t.octet }))
 
 answer-told : (a : StepAnswer) → answer_of (told a) ≡ a
 unfolding pick answer_of
-answer-told (steps.Accepted a) = refl
-answer-told (steps.Refused r) = refl
+answer-told (Ok a) = refl
+answer-told (Err r) = refl
 
 event_of : Tells → Event
 event_of (missing n) = event.Missing n

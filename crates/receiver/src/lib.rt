@@ -6,7 +6,8 @@ ghost use Rattle.source.specs.Scan.{fresh_kiss, fresh_bits};
 ghost use Rattle.receiver.specs.Receive.{fresh, Begins, frame_of, stretch_of, Offers, Receives};
 ghost use Rattle.std.specs.Prelude.{◌≡◌};
 
-use session::{OpenAnswer, Session, StepAnswer, Stepped};
+use answer::{Reason, Refusal};
+use session::{Accepted, Session, Stepped};
 use source::{Source, Taken};
 use stretch::KEPT;
 
@@ -21,7 +22,7 @@ pub struct Receiver {
 #[derive(Clone, Copy)]
 pub struct Begun {
     pub receiver: Receiver,
-    pub answer: OpenAnswer,
+    pub answer: Result<(), Reason>,
 }
 
 // What a call tells.
@@ -38,7 +39,7 @@ pub enum Event {
     // Octets were used that nothing is told of.
     Nothing,
     // What the session answers to what it was offered.
-    Answered(StepAnswer),
+    Answered(Result<Accepted, Refusal>),
 }
 
 // The next receiver, how many octets of the window were used, and what is told.
@@ -56,8 +57,10 @@ impl Receiver {
     {
         let source = Source::recording();
         let opened = Session::open(0, 0);
-        let session = opened.session;
-        Receiver { source, session }
+        Receiver {
+            source,
+            session: opened.session,
+        }
     }
 
     // A receiver of a KISS stream of which nothing is read yet, for frames with t octets of time. With t above 8 refusal 2, and one for
@@ -80,10 +83,13 @@ impl Receiver {
         ensures { Begins source t result }
     {
         let opened = Session::open(t, 0);
-        let session = opened.session;
-        let answer = opened.answer;
-        let receiver = Receiver { source, session };
-        Begun { receiver, answer }
+        Begun {
+            receiver: Receiver {
+                source,
+                session: opened.session,
+            },
+            answer: opened.answer,
+        }
     }
 
     // Goes on with the window's first section: the packets that a frame completes are handed out as `Session::step` does. A source
@@ -100,40 +106,29 @@ impl Receiver {
             (lent octets.old lengths.old firsts.old) result kept.new
             (lent octets.new lengths.new firsts.new) }
     {
-        let before = self.source;
         let mut session = self.session;
-        let scanned = before.scan(window, kept);
-        let source = scanned.source;
-        let taken = scanned.taken;
-        let event;
-        match taken {
-            Taken::Missing(n) => {
-                event = Event::Missing(n);
-            }
-            Taken::Bad => {
-                event = Event::Bad;
-            }
-            Taken::Over => {
-                event = Event::Over;
-            }
+        let scanned = self.source.scan(window, kept);
+        let event = match scanned.taken {
+            Taken::Missing(n) => Event::Missing(n),
+            Taken::Bad => Event::Bad,
+            Taken::Over => Event::Over,
             Taken::Opened(t) => {
                 let opened = Session::open(t as u8, 0);
                 session = opened.session;
-                event = Event::Opened;
+                Event::Opened
             }
-            Taken::Nothing => {
-                event = Event::Nothing;
-            }
-            Taken::Here(_, _) | Taken::Kept(_) | Taken::Refused(_) => {
+            Taken::Nothing => Event::Nothing,
+            taken @ (Taken::Here(_, _) | Taken::Kept(_) | Taken::Refused(_)) => {
                 let stepped = offer(session, taken, window, kept, octets, lengths, firsts);
                 session = stepped.session;
-                let answer = stepped.answer;
-                event = Event::Answered(answer);
+                Event::Answered(stepped.answer)
             }
-        }
-        let receiver = Receiver { source, session };
+        };
         Received {
-            receiver,
+            receiver: Receiver {
+                source: scanned.source,
+                session,
+            },
             used: scanned.used,
             event,
         }
@@ -155,13 +150,10 @@ pub fn offer<'a>(
         (lent octets.old lengths.old firsts.old) result
         (lent octets.new lengths.new firsts.new) }
 {
-    let stepped;
-    if let Taken::Refused(n) = taken {
-        stepped = session.turn_away(n, octets, lengths, firsts);
-    } else {
-        stepped = session.step(frame_of(taken, window, kept), octets, lengths, firsts);
+    match taken {
+        Taken::Refused(n) => session.turn_away(n, octets, lengths, firsts),
+        _ => session.step(frame_of(taken, window, kept), octets, lengths, firsts),
     }
-    stepped
 }
 
 // The octets of the frame that was found; none where no frame was found, or not all of its octets are there.
@@ -176,11 +168,6 @@ fn frame_of<'a>(taken: Taken, window: &'a [u8], kept: &'a [u8; KEPT]) -> &'a [u8
             octets::part(window, from, to - from)
         }
         Taken::Kept(n) => octets::part(kept, 0, n),
-        Taken::Missing(_)
-        | Taken::Bad
-        | Taken::Over
-        | Taken::Opened(_)
-        | Taken::Nothing
-        | Taken::Refused(_) => octets::part(window, 0, 0),
+        _ => &[],
     }
 }

@@ -54,7 +54,7 @@ impl Reader {
     {
         match self {
             Reader::Settings => match settings(window) {
-                Section::Missing(n) => Reader::waits(self, n),
+                Section::Missing(n) => self.waits(n),
                 Section::Bad => Reader::stopped(),
                 Section::Whole(t) => Scanned {
                     reader: Reader::Count,
@@ -63,7 +63,7 @@ impl Reader {
                 },
             },
             Reader::Count => match count(window) {
-                Section::Missing(n) => Reader::waits(self, n),
+                Section::Missing(n) => self.waits(n),
                 Section::Bad => Reader::stopped(),
                 Section::Whole(n) => Scanned {
                     reader: Reader::Frames(n),
@@ -155,7 +155,7 @@ pub fn settings(window: &[u8]) -> Section
     if 8 < window[4] {
         return Section::Bad;
     }
-    Section::Whole(octets::wide(window[4]))
+    Section::Whole(usize::from(window[4]))
 }
 
 // The count of frames at the window's start.

@@ -3,11 +3,10 @@ ghost use Rattle.std.specs.Prelude.{◌≡◌, ◌≤◌, length};
 
 // The number at a field's place; 0 if it isn't there.
 pub fn four(c: &[u8], field: u8) -> u32 {
-    let s = octets::part(c, octets::wide(field) * 4, 4);
-    if s.len() < 4 {
-        return 0;
+    match octets::part(c, usize::from(field) * 4, 4) {
+        [w, x, y, z] => octets::four(*w, *x, *y, *z),
+        _ => 0,
     }
-    octets::four(s[0], s[1], s[2], s[3])
 }
 
 // The same in 8, 16 and 64 bits, of which the last takes two places.
@@ -20,13 +19,13 @@ pub fn word(c: &[u8], field: u8) -> u16 {
 }
 
 pub fn eight(c: &[u8], field: u8) -> u64 {
-    let low = four(c, std::num::wrapping_add_u8(field, 1));
-    (four(c, field) as u64) * 4294967296 + low as u64
+    let low = four(c, field.wrapping_add(1));
+    u64::from(four(c, field)) * 4294967296 + u64::from(low)
 }
 
 // The octets whose place and number stand at a field's place; none if they aren't there.
 pub fn block(c: &[u8], field: u8) -> &[u8] {
-    let n = four(c, std::num::wrapping_add_u8(field, 1));
+    let n = four(c, field.wrapping_add(1));
     octets::part(c, four(c, field) as usize, n as usize)
 }
 
@@ -35,7 +34,7 @@ pub fn room(c: &[u8], field: u8, most: usize) -> usize
     ensures { result ≤ most }
 {
     let n = four(c, field) as usize;
-    if n < most { n } else { most }
+    n.min(most)
 }
 
 // The first 65 numbers of 16 bits, each four octets of s; 0 where there are none.
@@ -43,12 +42,8 @@ pub fn words(s: &[u8]) -> [u16; 65]
     ensures { 65 ≡ length result }
 {
     let mut list = [0u16; 65];
-    let mut at: usize = 0;
-    let mut i = 0;
-    while i < 65 {
-        list[i] = word(octets::part(s, at, 4), 0);
-        at = std::num::wrapping_add_usize(at, 4);
-        i += 1;
+    for (n, four) in list.iter_mut().zip(s.chunks(4)) {
+        *n = word(four, 0);
     }
     list
 }

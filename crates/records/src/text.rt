@@ -1,4 +1,5 @@
 // What is printed of a case.
+ghost use Rattle.std.specs.Prelude.{◌≤◌, length};
 
 // Standard output's descriptor.
 const STDOUT_FILENO: i32 = 1;
@@ -16,83 +17,67 @@ pub fn field(name: &[u8], n: u64) {
 
 // Prints text, in it a number for each #.
 pub fn tell(text: &[u8], numbers: &[u64]) {
-    let mut k = 0;
-    let mut i = 0;
-    while i < text.len() {
-        if text[i] != b'#' {
-            say(octets::part(text, i, 1));
-        } else if k < numbers.len() {
-            io::print_decimal(STDOUT_FILENO, numbers[k]);
-            k += 1;
+    let mut left = numbers.iter();
+    for c in text {
+        if *c != b'#' {
+            say(&[*c]);
+        } else if let Some(n) = left.next() {
+            io::print_decimal(STDOUT_FILENO, *n);
         }
-        i += 1;
     }
 }
 
 // Prints a name and a check, by four hexadecimal digits.
 pub fn check(name: &[u8], n: u16) {
     say(name);
-    io::print_hex(STDOUT_FILENO, n as u64, 4);
+    io::print_hex(STDOUT_FILENO, u64::from(n), 4);
 }
 
 // Prints a name and octets, by two hexadecimal digits each, "(none)" for none.
 pub fn hex(name: &[u8], s: &[u8]) {
     say(name);
-    if s.len() == 0 {
+    if s.is_empty() {
         say(b"(none)");
     }
-    let mut i = 0;
-    while i < s.len() {
-        io::print_hex(STDOUT_FILENO, octets::wide(s[i]) as u64, 2);
-        i += 1;
+    for x in s {
+        io::print_hex(STDOUT_FILENO, u64::from(*x), 2);
     }
 }
 
 // How many octets there are up to the last that isn't x.
-pub fn used(s: &[u8], x: u8) -> usize {
-    let mut n = s.len();
-    while 0 < n && s[n - 1] == x {
-        n -= 1;
+pub fn used(s: &[u8], x: u8) -> usize
+    ensures { result ≤ length s.now }
+{
+    for i in (0..s.len()).rev() {
+        if s[i] != x {
+            return i + 1;
+        }
     }
-    n
+    0
 }
 
 // Prints a name, the octets up to the last that isn't x, and how many are left.
 pub fn lent(name: &[u8], s: &[u8], x: u8) {
     let n = used(s, x);
     hex(name, octets::part(s, 0, n));
-    field(b"+", std::num::wrapping_sub_usize(s.len(), n) as u64);
-}
-
-// A 16-bit number in 64 bits.
-fn wide_word(x: u16) -> u64 {
-    x as u64
+    field(b"+", (s.len() - n) as u64);
 }
 
 // Prints a name and each number of a list that isn't x, behind its place.
-pub fn words(name: &[u8], s: &[u16], x: u16) {
+fn numbers<T: Copy + PartialEq + Into<u64>>(name: &[u8], s: &[T], x: T) {
     say(name);
-    let mut i = 0;
-    while i < s.len() {
-        if s[i] != x {
-            tell(b" #=#", &[i as u64, wide_word(s[i])]);
+    for (i, &n) in s.iter().enumerate() {
+        if n != x {
+            tell(b" #=#", &[i as u64, n.into()]);
         }
-        i += 1;
     }
 }
 
-// The same two of 32-bit numbers.
-fn wide_four(x: u32) -> u64 {
-    x as u64
+// The same of 16-bit and of 32-bit numbers.
+pub fn words(name: &[u8], s: &[u16], x: u16) {
+    numbers(name, s, x);
 }
 
 pub fn fours(name: &[u8], s: &[u32], x: u32) {
-    say(name);
-    let mut i = 0;
-    while i < s.len() {
-        if s[i] != x {
-            tell(b" #=#", &[i as u64, wide_four(s[i])]);
-        }
-        i += 1;
-    }
+    numbers(name, s, x);
 }

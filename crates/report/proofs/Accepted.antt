@@ -1,4 +1,5 @@
 -- What is known of a report that was accepted.
+use Rattle.std.specs.Prelude.{Some, None}
 use Prim.Native.Nat.{ℕ}
 use mathlib.Core.Path.{◌≡◌, refl, sym, subst}
 use mathlib.Core.List.{List}
@@ -13,8 +14,7 @@ use Rattle.report.specs.Table.{find_pair}
 use Rattle.report.specs.Report.{content_of, length_wrong, line_above, no_report, in_pair, read_content, read_report}
 use Rattle.report.proofs.Known.{Kind, kind}
 use Rattle.packet.specs.declared.Packet.{Packet}
-use Rattle.report.specs.declared.table.Found.{Found}
-use Rattle.report.specs.declared.table.Found.TheVariants as found
+use Rattle.report.specs.Answers.{Found}
 use Rattle.report.specs.declared.Report.{Report}
 
 pub record Accepted (s : List ℕ) (r : Report) : Type 0 where
@@ -27,8 +27,8 @@ pub record Accepted (s : List ℕ) (r : Report) : Type 0 where
 in_pair_lem : (f : Found) (p : Packet) (s : List ℕ) {r : Report} → f ≡ find_pair p.service p.subtype → in_pair f p s ≡ accept r
     → Kind p × (line_above p s ≡ false) × (record { packet = p; content = content_of p s } ≡ r)
 unfolding in_pair
-in_pair_lem found.Unknown p s e h = refuse_or_accept h
-in_pair_lem (found.Pair q) p s e h =
+in_pair_lem None p s e h = refuse_or_accept h
+in_pair_lem (Some q) p s e h =
     let a = not_picked (length_wrong p q) _ _ _ h refuse_or_accept in
     let b = not_picked (line_above p s) _ _ _ a.1 refuse_or_accept in
     (kind p (sym e) a.0, b.0, same-fields b.1)

@@ -1,4 +1,5 @@
 -- The reader of reports and their writers undo one another.
+use Rattle.std.specs.Prelude.{Ok, Some}
 use Prim.Native.Nat.{ℕ, ◌+◌, ◌-◌, ◌≤◌, ◌<◌}
 use native.Mathlib.Omega.{arith}
 use mathlib.Core.Path.{◌≡◌, refl, sym, ap, subst, ◌∙◌}
@@ -30,16 +31,14 @@ use Rattle.report.proofs.Read.{report-read, packet-accepted}
 use Rattle.report.proofs.Accepted.{Accepted, accepted}
 use Rattle.report.proofs.Strings.{total, strings-cut, length-joined, cut-joined, lengths-cut, joined-cut}
 use Rattle.packet.specs.declared.Packet.{Packet}
-use Rattle.packet.specs.declared.PacketRead.TheVariants as packet-read
 use Rattle.report.specs.declared.table.Pair.{Pair}
-use Rattle.report.specs.declared.table.Found.TheVariants as found
 use Rattle.report.specs.declared.Content.{Content}
 use Rattle.report.specs.declared.Content.TheVariants.{Success, Failure, Housekeeping, Available, Line}
 
 -- c is what the reader makes of the packet s, whose fields are p
 record Read (p : Packet) (s : List ℕ) (c : Content) : Type 0 where
   pair : Pair
-  known : find_pair p.service p.subtype ≡ found.Pair pair
+  known : find_pair p.service p.subtype ≡ Some pair
   length : length_wrong p pair ≡ false
   below : line_above p s ≡ false
   content : c ≡ content_of p s
@@ -98,7 +97,7 @@ reads-back r strings right =
       fields =
           sym
           (report-read p s refl m.known m.length m.below m.content
-          ∙ packet-accepted s {x = packet-read.Packet p} (sym (packet-reads-back p (source_data c strings) f).fields) refl);
+          ∙ packet-accepted s {x = Ok p} (sym (packet-reads-back p (source_data c strings) f).fields) refl);
       parts =
           strings-cut c s
           ∙ cut-joined (lengths_of c) strings s _ (14 + length (numbers_of c)) le (after-source p (numbers_of c) (joined strings))

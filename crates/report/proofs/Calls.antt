@@ -1,11 +1,12 @@
 -- Demand 2 over the calls of the reports, by the contracts that Rattle generates of them: the five that write, the one that reads, and
 -- those that give the strings which stand beside the fields.
+use Rattle.std.specs.Prelude.{Ok}
 use Prim.Native.Nat.{ℕ}
 use mathlib.Core.Path.{◌≡◌, refl, ap, ◌∙◌}
 use mathlib.Core.List.{List, [], ◌∷◌}
 use Rattle.answer.specs.Called.{Called}
 use Rattle.answer.specs.Back.{Format, CallsBack}
-use Rattle.answer.specs.declared.Written.{Written}
+use Rattle.answer.specs.Writer.{Written}
 use Rattle.answer.proofs.Called.{of_call}
 use Rattle.answer.proofs.Back.{Defined}
 use Rattle.answer.proofs.Back as back
@@ -18,8 +19,7 @@ use Rattle.report.specs.declared.Line.{Line}
 use Rattle.report.specs.declared.Content.{Content}
 use Rattle.report.specs.declared.Content.TheVariants as content
 use Rattle.report.specs.declared.Report.{Report}
-use Rattle.report.specs.declared.ReportRead.{ReportRead}
-use Rattle.report.specs.declared.ReportRead.TheVariants as read
+use Rattle.report.specs.Answers.{ReportRead}
 use Rattle.report.proofs.Back.{reads-back, writes-back}
 use Rattle.report.proofs.Told.{told_apart}
 use Rattle.report.proofs.Report.read.Kinds as kread
@@ -113,7 +113,7 @@ format =
     record {
       wrong = report_wrong;
       octets = report_octets;
-      accepting = read.Report;
+      accepting = Ok;
       Writes = Writes;
       Reads = Reads;
       Finds = λ r. FindsAs r.content;

@@ -1,4 +1,5 @@
 -- What is known of a packet whose pair is in the table.
+use Rattle.std.specs.Prelude.{Some}
 use Prim.Native.Nat.{ℕ, ◌≤◌}
 use native.Mathlib.Omega.{arith}
 use mathlib.Core.Path.{◌≡◌, refl, sym}
@@ -13,7 +14,6 @@ use Rattle.report.specs.Report.{success_of, failure_of, housekeeping_of, availab
 use Rattle.report.proofs.Search.{Each, hit}
 use Rattle.packet.specs.declared.Packet.{Packet}
 use Rattle.report.specs.declared.table.Pair.{Pair}
-use Rattle.report.specs.declared.table.Found.TheVariants as found
 use Rattle.report.specs.declared.Content.{Content}
 use Rattle.report.specs.declared.Content.TheVariants as content
 
@@ -61,7 +61,7 @@ all-reported p = (
 )
 
 -- the pair that the search found, and a length that is not refused
-pub kind : (p : Packet) {q : Pair} → find_pair p.service p.subtype ≡ found.Pair q → length_wrong p q ≡ false → Kind p
+pub kind : (p : Packet) {q : Pair} → find_pair p.service p.subtype ≡ Some q → length_wrong p q ≡ false → Kind p
 unfolding find_pair
 kind p {q} e l =
     let h = hit (Reported p) p.service p.subtype pairs (all-reported p) e in
@@ -78,7 +78,7 @@ some-octets p (a-line h l) = omega arith
 
 -- what the table and the reader make of the packets of a report
 pub record Of (p : Packet) (least greatest : ℕ) (line : Bool) (c : List ℕ → Content) : Type 0 where
-  pub found : find_pair p.service p.subtype ≡ found.Pair (pair p.service p.subtype least greatest)
+  pub found : find_pair p.service p.subtype ≡ Some (pair p.service p.subtype least greatest)
   pub content : (s : List ℕ) → content_of p s ≡ c s
   pub lines : image_line p ≡ line
 

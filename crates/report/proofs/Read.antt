@@ -1,4 +1,5 @@
 -- Laws that the reader's proof cites: its answers, one for each end.
+use Rattle.std.specs.Prelude.{Ok, Err, Some, None}
 use Prim.Native.Nat.{ℕ, ◌+◌, ◌-◌, ◌*◌, ◌≤◌}
 use native.Mathlib.Omega.{arith}
 use mathlib.Core.Path.{◌≡◌, sym, ap, ◌∙◌}
@@ -8,18 +9,18 @@ use lib.Dec.{ltb}
 use Rattle.octets.specs.Numbers.{at, word, four}
 use Rattle.octets.specs.Pick.{pick}
 use Rattle.octets.proofs.Choices.{picked, passed}
-use Rattle.answer.specs.Told.{accept, refuse}
+use Rattle.answer.specs.Told.{Told, accept, refuse, refuse_for, octet_of}
+use Rattle.answer.specs.declared.Reason.{Reason}
 use Rattle.answer.specs.Refusals as refusal
-use Rattle.packet.specs.Packet.{read_packet}
+use Rattle.packet.specs.Packet.{no_packet, read_packet}
+use Rattle.packet.proofs.Told.{no-octet}
 use Rattle.report.specs.Table.{find_pair, success, failure, housekeeping, available, image_line}
 use Rattle.report.specs.Report.{content_of, length_wrong, line_above, no_report, in_pair, read_content, read_report}
 use Rattle.report.proofs.Known.{kind, some-octets, of_success, of_failure, of_housekeeping, of_available}
 use Rattle.packet.specs.declared.Packet.{Packet}
-use Rattle.packet.specs.declared.PacketRead.{PacketRead}
-use Rattle.packet.specs.declared.PacketRead.TheVariants as packet-read
+use Rattle.packet.specs.Answers.{PacketRead}
 use Rattle.report.specs.declared.table.Pair.{Pair}
-use Rattle.report.specs.declared.table.Found.{Found}
-use Rattle.report.specs.declared.table.Found.TheVariants as found
+use Rattle.report.specs.Answers.{Found}
 use Rattle.report.specs.declared.Content.{Content}
 use Rattle.report.specs.declared.Content.TheVariants as content
 use Rattle.report.specs.declared.Report.{Report}
@@ -27,11 +28,11 @@ use Rattle.packet.specs.Packet.{told as packet-told}
 
 -- f is what the search gave
 module _ (p : Packet) (s : List ℕ) {f : Found} (e : f ≡ find_pair p.service p.subtype) where
-  pub pair-unknown : f ≡ found.Unknown → refuse no_report refusal.pair ≡ read_content p s
+  pub pair-unknown : f ≡ None → refuse no_report refusal.pair ≡ read_content p s
   unfolding read_content in_pair
   pair-unknown u = ap (λ (x : Found). in_pair x p s) (sym u ∙ e)
 
-  module _ {q : Pair} (k : f ≡ found.Pair q) where
+  module _ {q : Pair} (k : f ≡ Some q) where
     pub length-refused : length_wrong p q ≡ true → refuse no_report refusal.source_length ≡ read_content p s
     unfolding read_content in_pair
     length-refused t = picked _ _ _ t ∙ ap (λ (x : Found). in_pair x p s) (sym k ∙ e)
@@ -86,10 +87,13 @@ module _ (p : Packet) (s : List ℕ) where
 
 -- x is what the packet's reader gave
 module _ (s : List ℕ) {x : PacketRead} (e : packet-told x ≡ read_packet s) where
-  pub packet-accepted : {p : Packet} → x ≡ packet-read.Packet p → read_content p s ≡ read_report s
+  pub packet-accepted : {p : Packet} → x ≡ Ok p → read_content p s ≡ read_report s
   unfolding read_report pick
   packet-accepted k = simp (sym e ∙ ap packet-told k)
 
-  pub packet-refused : {n : ℕ} → x ≡ packet-read.Refused n → refuse no_report n ≡ read_report s
+  pub packet-refused : {n : Reason} → x ≡ Err n → refuse_for no_report n ≡ read_report s
   unfolding read_report pick
-  packet-refused k = simp (sym e ∙ ap packet-told k)
+  packet-refused {n} k =
+      let told : read_packet s ≡ refuse_for no_packet n = sym e ∙ ap packet-told k in
+      let octet : octet_of n ≡ 0 = sym (ap (λ (t : Told Packet). t.octet) told) ∙ no-octet s in
+      simp (told, octet)

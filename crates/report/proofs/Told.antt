@@ -1,4 +1,5 @@
 -- No two answers of the reader are told alike, and a refusal tells 0 in every field.
+use Rattle.std.specs.Prelude.{Ok, Err}
 use Prim.Native.Nat.{ℕ}
 use mathlib.Core.Path.{◌≡◌, refl, ap, ap₂}
 use mathlib.Core.List.{List}
@@ -8,20 +9,19 @@ use lib.Dec.{eqb}
 use Rattle.octets.specs.Numbers.{at}
 use Rattle.octets.specs.Pick.{pick}
 use Rattle.answer.specs.Told.{TellsNothing, NoneLeftOut}
-use Rattle.answer.proofs.Told.{same-fields, same-refusal, accept_or_refuse, refuse_or_accept, had_back}
+use Rattle.answer.proofs.Told.{same-fields, same-reason, accept_or_refuse, refuse_or_accept, had_back}
 use Rattle.report.specs.Report.{content_numbers, report_numbers, told, RefusalsTellNothing}
 use Rattle.report.specs.declared.Content.{Content}
 use Rattle.report.specs.declared.Content.TheVariants as content
 use Rattle.report.specs.declared.Report.{Report}
-use Rattle.report.specs.declared.ReportRead.{ReportRead}
-use Rattle.report.specs.declared.ReportRead.TheVariants as read
+use Rattle.report.specs.Answers.{ReportRead}
 use Rattle.packet.proofs.Told.{none-left-out as packet-none-left-out}
 
 pub told_apart : (x y : ReportRead) → told x ≡ told y → x ≡ y
-told_apart (read.Report r) (read.Report q) h = ap read.Report (same-fields h)
-told_apart (read.Refused n) (read.Refused m) h = ap read.Refused (same-refusal h)
-told_apart (read.Report r) (read.Refused m) h = accept_or_refuse h
-told_apart (read.Refused n) (read.Report q) h = refuse_or_accept h
+told_apart (Ok r) (Ok q) h = ap Ok (same-fields h)
+told_apart (Err n) (Err m) h = ap Err (same-reason n m h)
+told_apart (Ok r) (Err m) h = accept_or_refuse h
+told_apart (Err n) (Ok q) h = refuse_or_accept h
 
 -- a content can be had back from its numbers
 abbrev content_from : List ℕ → Content
@@ -49,8 +49,8 @@ none-left-out r q h =
     ap₂ {C = Report} (λ p c. record { packet = p; content = c }) packet content
 
 tell_nothing : TellsNothing told report_numbers
-tell_nothing (read.Report r) h = absurd (true≢false h)
-tell_nothing (read.Refused n) h = refl
+tell_nothing (Ok r) h = absurd (true≢false h)
+tell_nothing (Err n) h = refl
 
 pub refusals_tell_nothing : RefusalsTellNothing
 refusals_tell_nothing = (none-left-out, tell_nothing)

@@ -4,7 +4,7 @@ use mathlib.Core.List.{List}
 use Rattle.octets.specs.Unique.{Fixes}
 use Rattle.octets.proofs.Fixed.{fixed, fixed_told}
 use Rattle.answer.proofs.Writer.{one_written}
-use Rattle.answer.specs.declared.Written.{Written}
+use Rattle.answer.specs.Writer.{Written}
 use Rattle.report.specs.Report.{told}
 use Rattle.report.proofs.Told.{told_apart}
 use Rattle.report.proofs.Report.read.Kinds as kread

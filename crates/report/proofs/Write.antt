@@ -1,4 +1,5 @@
 -- Laws that the writers' proofs cite.
+use Rattle.std.specs.Prelude.{Err}
 use Prim.Native.Nat.{ℕ, ◌+◌, ◌≤◌, ◌<◌}
 use native.Mathlib.Omega.{arith}
 use mathlib.Core.Path.{◌≡◌, refl, sym, ap, subst, ◌∙◌}
@@ -12,11 +13,10 @@ use borrow.Author.Tests.{ltb-true, ltb-false}
 use Rattle.octets.specs.Parts.{put, written}
 use Rattle.octets.proofs.Tests.{or_left, or_right, or_true}
 use Rattle.octets.proofs.Placing.{put_first, after}
-use Rattle.answer.specs.Refusals.{field_range}
+use Rattle.answer.specs.declared.Reason.TheVariants.{FieldRange}
 use Rattle.answer.specs.Writer.{Wrote}
 use Rattle.answer.proofs.Writer.{refused_51}
-use Rattle.answer.specs.declared.Written.{Written}
-use Rattle.answer.specs.declared.Written.TheVariants.{Refused}
+use Rattle.answer.specs.Writer.{Written}
 use Rattle.packet.specs.Write.{fields_wrong, packet_octets}
 use Rattle.packet.proofs.Laws.{in_range}
 use Rattle.packet.specs.declared.Packet.{Packet}
@@ -68,14 +68,14 @@ true_unless true h = refl
 true_unless false h = absurd (h refl)
 
 -- source data has 235 octets and no more
-too_long : (p : Packet) (source : List ℕ) {out : List ℕ} → 235 < length source → WroteSource false p source out (Refused field_range) out
+too_long : (p : Packet) (source : List ℕ) {out : List ℕ} → 235 < length source → WroteSource false p source out (Err FieldRange) out
 too_long p source h =
     let f : fields_wrong p (length source) ≡ true = true_unless _ (λ r. omega (arith, (in_range p (length source) r).length)) in
     refused_51 {said = true} (sym f) refl
 
 -- the core's two ends
 pub core_refused : (w : Bool) (p : Packet) (a b c d : List ℕ) {out : List ℕ} → (w || ltb 235 (length c) || ltb 235 (length d)) ≡ true
-    → WroteSource w p (together a b c d) out (Refused field_range) out
+    → WroteSource w p (together a b c d) out (Err FieldRange) out
 core_refused true p a b c d h = refused_51 refl refl
 core_refused false p a b c d h =
     let n : length (together a b c d) ≡ length a + (length b + (length c + (length d + 0))) = simp length-append in

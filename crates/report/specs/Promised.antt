@@ -1,7 +1,7 @@
 -- What the crate's private functions promise.
 use Rattle.std.specs.Prelude.{ℕ, ◌≡◌, List, [], ◌∷◌, Bool, ◌||◌, length}
 use Rattle.answer.specs.Writer.{Wrote}
-use Rattle.answer.specs.declared.Written.{Written}
+use Rattle.answer.specs.Writer.{Written}
 use Rattle.packet.specs.Write.{fields_wrong, packet_octets}
 use Rattle.packet.specs.declared.Packet.{Packet}
 use Rattle.report.specs.Write.{joined}

@@ -1,9 +1,9 @@
 -- Document 01, 'Reports': what reading one gives. A packet's source data starts at its octet 14.
-use Rattle.std.specs.Prelude.{ℕ, ◌+◌, ◌-◌, List, [], ◌∷◌, ◌++◌, Bool, ◌&&◌, ◌||◌, ltb}
+use Rattle.std.specs.Prelude.{ℕ, ◌+◌, ◌-◌, List, [], ◌∷◌, ◌++◌, Bool, ◌&&◌, ◌||◌, ltb, Ok, Err, Some, None}
 use Rattle.octets.specs.Numbers.{at, word, four}
 use Rattle.octets.specs.Parts.{part}
 use Rattle.octets.specs.Pick.{pick}
-use Rattle.answer.specs.Told.{Told, accept, refuse, TellsNothing, NoneLeftOut}
+use Rattle.answer.specs.Told.{Told, accept, refuse, TellsNothing, NoneLeftOut, refuse_for}
 use Rattle.answer.specs.Refusals as refusal
 use Rattle.packet.specs.Packet.{no_packet, packet_numbers, read_packet}
 use Rattle.packet.specs.declared.Packet.{Packet}
@@ -11,8 +11,7 @@ use Rattle.report.specs.Limits.{last_line, pixels_length, block_length}
 use Rattle.report.specs.Places.{first_at, control_at, code_at, rest_at, ticks_at, first_block_at, second_block_at, line_at, pixels_at}
 use Rattle.report.specs.Table.{find_pair, success, failure, housekeeping, available, image_line}
 use Rattle.report.specs.declared.table.Pair.{Pair}
-use Rattle.report.specs.declared.table.Found.{Found}
-use Rattle.report.specs.declared.table.Found.TheVariants as found
+use Rattle.report.specs.Answers.{Found}
 use Rattle.report.specs.declared.Success.{Success}
 use Rattle.report.specs.declared.Failure.{Failure}
 use Rattle.report.specs.declared.Housekeeping.{Housekeeping}
@@ -21,8 +20,7 @@ use Rattle.report.specs.declared.Line.{Line}
 use Rattle.report.specs.declared.Content.{Content}
 use Rattle.report.specs.declared.Content.TheVariants as content
 use Rattle.report.specs.declared.Report.{Report}
-use Rattle.report.specs.declared.ReportRead.{ReportRead}
-use Rattle.report.specs.declared.ReportRead.TheVariants as read
+use Rattle.report.specs.Answers.{ReportRead}
 
 -- Two words of the telecommand; a failure adds a code.
 abbrev pub success_of : List ℕ → Success
@@ -91,8 +89,8 @@ report_numbers r = packet_numbers r.packet ++ content_numbers r.content
 
 -- A reader's answer tells the packet's fields and the content, or the refusal and 0 in every field.
 abbrev pub told : ReportRead → Told Report
-told (read.Report r) = accept r
-told (read.Refused n) = refuse no_report n
+told (Ok r) = accept r
+told (Err n) = refuse_for no_report n
 
 abbrev pub RefusalsTellNothing : Type 0
 RefusalsTellNothing = NoneLeftOut report_numbers × TellsNothing told report_numbers
@@ -107,8 +105,8 @@ line_above p s = image_line p && ltb last_line (at s 16)
 
 -- 30 where the search found no pair, then 31, 32, else the report.
 unfoldable pub in_pair : Found → Packet → List ℕ → Told Report
-in_pair found.Unknown p s = refuse no_report refusal.pair
-in_pair (found.Pair e) p s =
+in_pair None p s = refuse no_report refusal.pair
+in_pair (Some e) p s =
     pick (length_wrong p e) (refuse no_report refusal.source_length)
     (pick (line_above p s) (refuse no_report refusal.line) (accept (record { packet = p; content = content_of p s })))
 

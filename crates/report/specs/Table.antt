@@ -1,11 +1,10 @@
 -- Document 01, 'Reports': the fixed table of pairs and their source data lengths.
-use Rattle.std.specs.Prelude.{ℕ, List, [], ◌∷◌, Bool, ◌&&◌, ◌||◌, eqb}
+use Rattle.std.specs.Prelude.{ℕ, List, [], ◌∷◌, Bool, ◌&&◌, ◌||◌, eqb, Some, None}
 use Rattle.octets.specs.Pick.{pick}
 use Rattle.packet.specs.Limits.{longest_source}
 use Rattle.packet.specs.declared.Packet.{Packet}
 use Rattle.report.specs.declared.table.Pair.{Pair}
-use Rattle.report.specs.declared.table.Found.{Found}
-use Rattle.report.specs.declared.table.Found.TheVariants as found
+use Rattle.report.specs.Answers.{Found}
 
 -- Service type and subtype, the least and the greatest length.
 abbrev pub pair : ℕ → ℕ → ℕ → ℕ → Pair
@@ -18,9 +17,9 @@ pairs =
 
 -- The first pair of the list with this service type and subtype.
 abbrev pub first : ℕ → ℕ → List Pair → Found
-first service subtype [] = found.Unknown
+first service subtype [] = None
 first service subtype (p ∷ ps) =
-    pick (eqb p.service service && eqb p.subtype subtype) (found.Pair p) (first service subtype ps)
+    pick (eqb p.service service && eqb p.subtype subtype) (Some p) (first service subtype ps)
 
 unfoldable pub find_pair : ℕ → ℕ → Found
 find_pair service subtype = first service subtype pairs

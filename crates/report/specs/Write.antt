@@ -2,7 +2,7 @@
 use Rattle.std.specs.Prelude.{ℕ, List, [], ◌∷◌, ◌++◌, Bool, true, false, not, ◌||◌, length, ltb, eqb}
 use Rattle.octets.specs.Numbers.{word_of, four_of}
 use Rattle.answer.specs.Writer.{Wrote}
-use Rattle.answer.specs.declared.Written.{Written}
+use Rattle.answer.specs.Writer.{Written}
 use Rattle.packet.specs.Write.{fields_wrong, packet_octets}
 use Rattle.packet.specs.declared.Packet.{Packet}
 use Rattle.report.specs.Limits.{last_line, pixels_length, block_length}

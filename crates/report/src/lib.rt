@@ -6,8 +6,8 @@ ghost use Rattle.octets.specs.Numbers.{at, word};
 ghost use Rattle.report.specs.Report.{told, content_of, read_content, read_report};
 ghost use Rattle.report.specs.Report.{rest_of, first_block, second_block, pixels_of};
 
-use packet::{Packet, PacketRead};
-use table::Found;
+use answer::Reason;
+use packet::Packet;
 
 mod table;
 mod writers;
@@ -65,21 +65,11 @@ pub struct Report {
     pub content: Content,
 }
 
-// What reading gives: the report, or the refusal's number.
-#[derive(Clone, Copy)]
-pub enum ReportRead {
-    Report(Report),
-    Refused(u16),
-}
-
 // The octet at index i of s, 0 past its end.
 fn octet(s: &[u8], i: usize) -> u8
     ensures { result ≡ at s.now i }
 {
-    if i < s.len() {
-        return s[i];
-    }
-    0
+    s.get(i).copied().unwrap_or(0)
 }
 
 // The number of the octets at two indices of s.
@@ -129,31 +119,27 @@ fn content_of(p: Packet, s: &[u8]) -> Content
 }
 
 // The report of the packet s, whose fields are p, or refusal 30, 31 or 32.
-fn read_content(p: Packet, s: &[u8]) -> ReportRead
+fn read_content(p: Packet, s: &[u8]) -> Result<Report, Reason>
     ensures { told result ≡ read_content p s.now }
 {
-    let Found::Pair(pair) = table::find(p.service, p.subtype) else {
-        return ReportRead::Refused(answer::PAIR);
-    };
+    let pair = table::find(p.service, p.subtype).ok_or(Reason::Pair)?;
     if (p.length < pair.least) | (pair.greatest < p.length) {
-        return ReportRead::Refused(answer::SOURCE_LENGTH);
+        return Err(Reason::SourceLength);
     }
     if table::image_line(p.service, p.subtype) & (Line::LAST < octet(s, 16)) {
-        return ReportRead::Refused(answer::LINE);
+        return Err(Reason::Line);
     }
     let content = content_of(p, s);
-    ReportRead::Report(Report { packet: p, content })
+    Ok(Report { packet: p, content })
 }
 
 impl Report {
     // The report that octets are, or refusal 20, 21, 22, 30, 31 or 32, the first that holds.
-    pub fn read(octets: &[u8]) -> ReportRead
+    pub fn read(octets: &[u8]) -> Result<Report, Reason>
         ensures { told result ≡ read_report octets.now }
     {
-        match Packet::read(octets) {
-            PacketRead::Packet(p) => read_content(p, octets),
-            PacketRead::Refused(n) => ReportRead::Refused(n),
-        }
+        let packet = Packet::read(octets)?;
+        read_content(packet, octets)
     }
 }
 
@@ -165,8 +151,7 @@ impl Housekeeping {
     pub fn rest(self, octets: &[u8]) -> &[u8]
         ensures { result.now ≡ rest_of self octets.now }
     {
-        let n = self.length;
-        octets::part(octets, Housekeeping::REST, n)
+        octets::part(octets, Housekeeping::REST, self.length)
     }
 }
 

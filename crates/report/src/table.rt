@@ -14,13 +14,6 @@ pub(crate) struct Pair {
     pub(crate) greatest: usize,
 }
 
-// What the search gives.
-#[derive(Clone, Copy)]
-pub(crate) enum Found {
-    Pair(Pair),
-    Unknown,
-}
-
 const PAIRS: [Pair; 9] = [
     Pair {
         service: 1,
@@ -78,20 +71,14 @@ const PAIRS: [Pair; 9] = [
     },
 ];
 
-// The table's pair of this service type and subtype.
-pub(crate) fn find(service: u8, subtype: u8) -> Found
+// The table's pair of this service type and subtype, if it has one.
+pub(crate) fn find(service: u8, subtype: u8) -> Option<Pair>
     ensures { result ≡ find_pair service subtype }
 {
-    let pairs = PAIRS;
-    let mut i: usize = 0;
-    while i < 9 {
-        let p = pairs[i];
-        if (p.service == service) & (p.subtype == subtype) {
-            return Found::Pair(p);
-        }
-        i += 1;
-    }
-    Found::Unknown
+    PAIRS
+        .iter()
+        .find(|p| (p.service == service) & (p.subtype == subtype))
+        .copied()
 }
 
 // Verification success: (1,1), (1,3), (1,7).

@@ -8,7 +8,7 @@ ghost use Rattle.report.specs.Asked.{Short};
 ghost use Rattle.report.specs.Promised.{together, WroteSource};
 
 use super::{Available, Content, Failure, Housekeeping, Line, Success, table};
-use answer::Written;
+use answer::Reason;
 use packet::Packet;
 
 // Four strings one after another, with zeros after them.
@@ -38,13 +38,13 @@ fn write(
     c: &[u8],
     d: &[u8],
     out: &mut [u8],
-) -> Written
+) -> Result<usize, Reason>
     requires { (length a.now ≤ 4) × (length b.now ≤ 4) }
     ensures { WroteSource wrong packet (together a.now b.now c.now d.now)
         out.old result out.new }
 {
     if wrong | (Packet::LONGEST_SOURCE < c.len()) | (Packet::LONGEST_SOURCE < d.len()) {
-        return Written::Refused(answer::FIELD_RANGE);
+        return Err(Reason::FieldRange);
     }
     let n = a.len() + b.len() + c.len() + d.len();
     let source = lay(a, b, c, d);
@@ -53,7 +53,7 @@ fn write(
 
 impl Success {
     // Writes a verification success: packet ID and sequence control.
-    pub fn write(self, packet: Packet, out: &mut [u8]) -> Written
+    pub fn write(self, packet: Packet, out: &mut [u8]) -> Result<usize, Reason>
         ensures { WroteReport packet (Content.Success self) [] out.old result out.new }
     {
         let wrong = !table::success(packet.service, packet.subtype);
@@ -65,7 +65,7 @@ impl Success {
 
 impl Failure {
     // Writes a verification failure: packet ID, sequence control and code.
-    pub fn write(self, packet: Packet, out: &mut [u8]) -> Written
+    pub fn write(self, packet: Packet, out: &mut [u8]) -> Result<usize, Reason>
         ensures { WroteReport packet (Content.Failure self) [] out.old result out.new }
     {
         let wrong = !table::failure(packet.service, packet.subtype);
@@ -78,7 +78,7 @@ impl Failure {
 
 impl Housekeeping {
     // Writes a housekeeping report: SID and the rest.
-    pub fn write(self, packet: Packet, rest: &[u8], out: &mut [u8]) -> Written
+    pub fn write(self, packet: Packet, rest: &[u8], out: &mut [u8]) -> Result<usize, Reason>
         ensures { WroteReport packet (Content.Housekeeping self) (rest.now ∷ []) out.old result out.new }
     {
         let wrong = !table::housekeeping(packet.service, packet.subtype)
@@ -90,7 +90,13 @@ impl Housekeeping {
 
 impl Available {
     // Writes an available image: image number, ticks and two blocks.
-    pub fn write(self, packet: Packet, first: &[u8], second: &[u8], out: &mut [u8]) -> Written
+    pub fn write(
+        self,
+        packet: Packet,
+        first: &[u8],
+        second: &[u8],
+        out: &mut [u8],
+    ) -> Result<usize, Reason>
         ensures { WroteReport packet (Content.Available self) (first.now ∷ second.now ∷ []) out.old result
             out.new }
     {
@@ -104,7 +110,7 @@ impl Available {
 
 impl Line {
     // Writes an image line: image number, line and pixels.
-    pub fn write(self, packet: Packet, pixels: &[u8], out: &mut [u8]) -> Written
+    pub fn write(self, packet: Packet, pixels: &[u8], out: &mut [u8]) -> Result<usize, Reason>
         ensures { WroteReport packet (Content.Line self) (pixels.now ∷ []) out.old result out.new }
     {
         let wrong = !table::image_line(packet.service, packet.subtype)

@@ -1,8 +1,7 @@
 -- Both sides of the rules' lines: cases worked out.
-use Rattle.std.specs.Prelude.{ℕ, suc, ◌-◌, ◌≡◌, List, [], ◌∷◌, ◌++◌, length, take, drop, replicate, true, false}
+use Rattle.std.specs.Prelude.{ℕ, suc, ◌-◌, ◌≡◌, List, [], ◌∷◌, ◌++◌, length, take, drop, replicate, true, false, Some, None}
 use Rattle.std.proofs.Math.Option.{some}
-use Rattle.counts.specs.declared.Loss.{Loss}
-use Rattle.counts.specs.declared.Loss.TheVariants.{Unknown, Known}
+use Rattle.counts.specs.Loss.{Loss}
 use Rattle.rules.specs.Channel.{Piece, held_of, nothing, Handed, given, Channel, fresh, step}
 use Rattle.rules.specs.Limits.{most_data}
 use Rattle.rules.specs.Bounds.{held_wrong}
@@ -23,11 +22,11 @@ pub record Reply : Type 0 where
   pub packets : List Handed
 
 abbrev pub reply : ℕ → List Handed → Reply
-reply n ps = record { lost = Known n; packets = ps }
+reply n ps = record { lost = Some n; packets = ps }
 
 -- To the first frame.
 abbrev pub at_first : List Handed → Reply
-at_first ps = record { lost = Unknown; packets = ps }
+at_first ps = record { lost = None; packets = ps }
 
 -- The channel's replies to frames under the arrival numbers a, a + 1 and so on.
 abbrev pub replies_to : ℕ → Channel → List Piece → List Reply

@@ -2,7 +2,7 @@
 use Rattle.std.specs.Prelude.{List, [], ◌∷◌, ◌++◌, Bool, true, false, ◌&&◌, cond, ℕ, zero, suc, ◌+◌, ◌-◌, length, drop, leb, ltb, eqb}
 use Rattle.std.proofs.Math.Option.{Option, none, some}
 use Rattle.octets.specs.Numbers.{at, word}
-use Rattle.counts.specs.declared.Loss.{Loss}
+use Rattle.counts.specs.Loss.{Loss}
 use Rattle.counts.specs.Lost.{lost_since, number}
 use Rattle.frame.specs.Limits.{raw_data, none_starts}
 use Rattle.packet.specs.Limits.{least_length, greatest_length}

@@ -1,4 +1,5 @@
 -- An accepted call, of `send` or of `empty`: its frames by the rules, and what it left.
+use Rattle.std.specs.Prelude.{Ok}
 use Rattle.std.proofs.Common.{◌≡◌, ℕ, suc, ◌-◌, ◌<◌, ◌≤◌, Bool, false, ◌||◌, ltb, List, [], ◌∷◌, map, length, take, sym, refl, ap, ◌∙◌, arith, eqb-true}
 use lib.Seq.{take-append_seam}
 use borrow.Author.Tests.{not-false}
@@ -19,7 +20,6 @@ use Rattle.sender.specs.Send.{sent_of, tells, count_after, sending, empty_octets
 use Rattle.sender.specs.Calls.{SendCall, EmptyCall, Call, sends, empties, Does, common_of, master_of, count_of, sent_by, left_by, made_by}
 use Rattle.sender.specs.Calls.{packets_by, taken}
 use Rattle.sender.specs.declared.Sent.{Sent}
-use Rattle.sender.specs.declared.SendAnswer.TheVariants as answer
 use Rattle.sender.proofs.Numbered.{stepped, stepped-is, octets_upto, upto_count}
 use Rattle.sender.proofs.Answers.{all-good, sized}
 use Rattle.sender.proofs.Joining.{AllFit}
@@ -33,17 +33,17 @@ pub record Accepted (c : SendCall) : Type 0 where
   pub good : AllGood (packets_of c.wanted)
   pub least : 0 < c.wanted.size
   pub greatest : c.wanted.size ≤ 251 - c.wanted.common.t
-  pub outcome : made c.wanted.master c.wanted.count (octets_of c.wanted) c.lent ≡ observed (answer.Sent c.sent)
+  pub outcome : made c.wanted.master c.wanted.count (octets_of c.wanted) c.lent ≡ observed (Ok c.sent)
       c.left.octets c.left.lengths
 
-not_refused : (n : ℕ) (l : Lent) (s : Sent) (o q : List ℕ) → refused n l ≡ observed (answer.Sent s) o q → ⊥
+not_refused : (n : ℕ) (l : Lent) (s : Sent) (o q : List ℕ) → refused n l ≡ observed (Ok s) o q → ⊥
 not_refused n l s o q e = refuse_or_accept (ap (λ (x : Outcome). x.answer) e)
 
 pub accepted : (c : SendCall) → Does (sends c) → Accepted c
 unfolding sending
 accepted c h =
     let w : Wanted = c.wanted in
-    let no : (n : ℕ) → refused n c.lent ≡ observed (answer.Sent c.sent) c.left.octets c.left.lengths → ⊥ =
+    let no : (n : ℕ) → refused n c.lent ≡ observed (Ok c.sent) c.left.octets c.left.lengths → ⊥ =
     λ n. not_refused n c.lent c.sent c.left.octets c.left.lengths in
     let a = not_picked (common_wrong w.common w.master w.count w.time || lengths_wrong w.lengths (length w.octets)) _ _ _
     (sym h) (no _) in

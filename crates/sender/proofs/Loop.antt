@@ -1,4 +1,5 @@
 -- The loop that makes all frames: what it has done before frame k, and that one turn does the next.
+use Rattle.std.specs.Prelude.{Ok}
 use Rattle.std.proofs.Common.{◌≡◌, ℕ, suc, ◌+◌, ◌-◌, ◌*◌, ◌<◌, ◌≤◌, min, List, [], ◌∷◌, ◌++◌, map, length, take, drop, set, sym, refl, ap, ◌∙◌, append_assoc, append-nil, mul-le-mul_right, add-one, arith, length-append, length-drop, length-take, drop-cons, drop-drop}
 use lib.ListN.{length-map}
 use lib.Seq.{take-append_seam, drop-append_seam, drop-length, set-append_seam}
@@ -15,7 +16,6 @@ use Rattle.sender.specs.Frames.{Wanted, framed, full_frames}
 use Rattle.sender.specs.Send.{Lent, lent, Outcome, count_after, common_wrong, octets_of, made, observed}
 use Rattle.sender.specs.Asked.{Begun, First, Within, Frameable, Framing, Ready}
 use Rattle.sender.specs.declared.Common.{Common}
-use Rattle.sender.specs.declared.SendAnswer.TheVariants as answer
 use Rattle.sender.proofs.Starts.{first-zero, begun-later, pointer_is}
 use Rattle.sender.proofs.One.{time-most, time-lent}
 use Rattle.sender.proofs.Numbered.{stepped, stepped-is, size_no, data_no, piece_no, octets_no, octets_up_to, full-least, octets_upto}
@@ -234,13 +234,14 @@ module _ {w : Wanted} {l l' : Lent} {full i start all own place end k : ℕ} (r 
 
 pub so_far_all : {w : Wanted} {l l' : Lent} {full i start all own place end k : ℕ} → Ready w full l
     → SoFar w l l' full i start all own place end k → full < k
-    → ◌≡◌ {A = Outcome} (observed (answer.Sent
-    (record { frames = k; octets = end; master = record { 0 = all }; count = record { 0 = own } })) l'.octets l'.lengths)
+    → ◌≡◌ {A = Outcome} (observed (Ok
+    (record { frames = full + 1; octets = end; master = record { 0 = all }; count = record { 0 = own } })) l'.octets l'.lengths)
     (made w.master w.count (octets_of w) l)
 so_far_all {w} {l} {l'} {full} {i} {start} {all} {own} {place} {end} {k} r s h =
     let last : k ≡ suc full = omega (arith, s.upto) in
     let frames : octets_up_to w k ≡ octets_of w = ap (octets_up_to w) (last ∙ ap suc r.before) ∙ sym (octets_upto w r.adds r.least) in
     let number : k ≡ length (octets_of w) = sym (upto_count w k) ∙ ap length frames in
+    let made-all : full + 1 ≡ length (octets_of w) = omega (arith, number) in
     let master : all ≡ count_after w.master (length (octets_of w)) =
     s.master ∙ ap (λ (j : ℕ). stepped j w.master) last ∙ stepped-is full w.master ∙ ap (count_after w.master)
     (sym last ∙ number) in
@@ -251,10 +252,10 @@ so_far_all {w} {l} {l'} {full} {i} {start} {all} {own} {place} {end} {k} r s h =
     (λ (z : List (List ℕ)). written (joined z) l.octets) frames in
     let entries : l'.lengths ≡ written (map length (octets_of w)) l.lengths =
     s.lengths ∙ ap (λ (z : List (List ℕ)). written (map length z) l.lengths) frames in
-    alike number octets master count left entries
+    alike made-all octets master count left entries
   where
     alike : {k₁ k₂ e₁ e₂ m₁ m₂ c₁ c₂ : ℕ} {o₁ o₂ q₁ q₂ : List ℕ} → k₁ ≡ k₂ → e₁ ≡ e₂ → m₁ ≡ m₂ → c₁ ≡ c₂ → o₁ ≡ o₂ → q₁ ≡ q₂
-        → ◌≡◌ {A = Outcome} (observed (answer.Sent
+        → ◌≡◌ {A = Outcome} (observed (Ok
         (record { frames = k₁; octets = e₁; master = record { 0 = m₁ }; count = record { 0 = c₁ } })) o₁ q₁)
-        (observed (answer.Sent (record { frames = k₂; octets = e₂; master = record { 0 = m₂ }; count = record { 0 = c₂ } })) o₂ q₂)
+        (observed (Ok (record { frames = k₂; octets = e₂; master = record { 0 = m₂ }; count = record { 0 = c₂ } })) o₂ q₂)
     alike a b c d e f = rw (a, b, c, d, e, f)

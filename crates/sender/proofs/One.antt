@@ -1,14 +1,15 @@
 -- One frame: its fields are in range if an empty frame's are, and what writing it leaves.
+use Rattle.std.specs.Prelude.{Ok, Err, is_err}
 use Rattle.std.proofs.Common.{◌≡◌, ℕ, ◌+◌, ◌-◌, ◌≤◌, Bool, true, false, not, ◌||◌, ltb, List, [], length, take, drop, sym, refl, ap, ◌∙◌, arith, length-drop, length-take, le-ltb, lt-ltb, eq-eqb}
 use Rattle.octets.specs.Pick.{pick}
 use Rattle.octets.specs.Parts.{written}
 use Rattle.octets.proofs.Choices.{not_picked}
 use Rattle.answer.specs.Refusals.{output_short, field_range}
-use Rattle.answer.specs.Told.{Told, accept, refuse}
+use Rattle.answer.specs.Told.{Told, accept, refuse, refuse_at}
+use Rattle.answer.specs.declared.Reason.{Reason}
 use Rattle.answer.specs.Writer.{Wrote, writing}
 use Rattle.answer.specs.Writer as writer
-use Rattle.answer.specs.declared.Written.{Written}
-use Rattle.answer.specs.declared.Written.TheVariants as written
+use Rattle.answer.specs.Writer.{Written}
 use Rattle.answer.proofs.Told.{refuse_or_accept}
 use Rattle.answer.proofs.Writer.{wrote, one_written}
 use Rattle.frame.specs.Frame.{pointer_wrong}
@@ -23,8 +24,7 @@ use Rattle.sender.specs.Send.{no_sent, told, tells, common_wrong, empty_octets, 
 use Rattle.sender.specs.Asked.{Frameable, Framing}
 use Rattle.sender.specs.declared.Common.{Common}
 use Rattle.sender.specs.declared.Sent.{Sent}
-use Rattle.sender.specs.declared.SendAnswer.{SendAnswer}
-use Rattle.sender.specs.declared.SendAnswer.TheVariants as answer
+use Rattle.sender.specs.Answers.{SendAnswer}
 
 -- ---- fields in range
 
@@ -101,7 +101,7 @@ framing c master count place at n time octets out {f} {e} {k} {r} {out'} a ef ee
 
 -- what is told of the writer's answer
 retold : ℕ → ℕ → Told ℕ → Told Sent
-retold master count t = pick t.accepted (accept (tells master count 1 t.fields)) (refuse no_sent t.refusal)
+retold master count t = pick t.accepted (accept (tells master count 1 t.fields)) (refuse_at no_sent t.refusal t.octet)
 
 retold_is : (master count : ℕ) (wrong short : Bool) (n : ℕ)
     → retold master count (pick wrong (refuse 0 field_range) (pick short (refuse 0 output_short) (accept n)))
@@ -126,13 +126,13 @@ module _ (c : Common) (master count : ℕ) (time out : List ℕ) {f : Frame} {r 
         leaves = plain.leaves;
       }
 
-  pub emptied_sent : {n all own : ℕ} → r ≡ written.Length n → all ≡ next_count master → own ≡ next_count count
-      → Emptied c master count time out (answer.Sent
+  pub emptied_sent : {n all own : ℕ} → r ≡ Ok n → all ≡ next_count master → own ≡ next_count count
+      → Emptied c master count time out (Ok
       (record { frames = 1; octets = n; master = record { 0 = all }; count = record { 0 = own } })) out'
   unfolding retold pick
   emptied_sent er ea eo = emptied (rw (er, ea, eo))
 
-  pub emptied_refused : {n : ℕ} → r ≡ written.Refused n → Emptied c master count time out (answer.Refused n) out'
+  pub emptied_refused : {n : Reason} → r ≡ Err n → Emptied c master count time out (Err n) out'
   unfolding retold pick
   emptied_refused er = emptied (rw er)
 
@@ -144,7 +144,7 @@ chosen b s x y z p q = simp (p, q)
 
 module _ (c : Common) (master count : ℕ) (time out : List ℕ) {r : SendAnswer} {out' : List ℕ}
     (e : Emptied c master count time out r out') where
-  pub made-right : {s : Sent} → r ≡ answer.Sent s → false ≡ common_wrong c master count time
+  pub made-right : {s : Sent} → r ≡ Ok s → false ≡ common_wrong c master count time
   made-right {s} p =
       sym (not_picked (common_wrong c master count time) _ _ _ (sym e.answers ∙ ap told p) refuse_or_accept).0
 
@@ -157,7 +157,7 @@ module _ (c : Common) (master count : ℕ) (time out : List ℕ) {r : SendAnswer
     time-lent c master count time h,
   )
 
-  pub refused-wrong : {n : ℕ} → 31 ≤ length out → r ≡ answer.Refused n → true ≡ common_wrong c master count time
+  pub refused-wrong : {n : Reason} → 31 ≤ length out → r ≡ Err n → true ≡ common_wrong c master count time
   refused-wrong {n} room p = go (common_wrong c master count time) refl
     where
       go : (b : Bool) → common_wrong c master count time ≡ b → true ≡ common_wrong c master count time
@@ -166,3 +166,10 @@ module _ (c : Common) (master count : ℕ) (time out : List ℕ) {r : SendAnswer
           let room' : length (empty_octets c master count time) ≤ length out = omega (arith, long h) in
           refuse_or_accept (ap told (sym p) ∙ e.answers
           ∙ chosen _ (ltb (length out) (length (empty_octets c master count time))) _ _ _ h (le-ltb _ _ room'))
+
+  pub wrong-told : 31 ≤ length out → is_err r ≡ common_wrong c master count time
+  wrong-told room = go r refl
+    where
+      go : (x : SendAnswer) → r ≡ x → is_err x ≡ common_wrong c master count time
+      go (Ok s) p = made-right p
+      go (Err n) p = refused-wrong room p

@@ -2,7 +2,7 @@
 use Rattle.std.proofs.Common.{ℕ, List, sym, ◌∙◌, ap₂}
 use Rattle.octets.specs.Unique.{Fixes}
 use Rattle.sender.specs.Send.{Lent, lent}
-use Rattle.sender.specs.declared.SendAnswer.{SendAnswer}
+use Rattle.sender.specs.Answers.{SendAnswer}
 use Rattle.sender.proofs.Told.{told_apart, outcome_apart}
 use Rattle.sender.proofs.send.Kinds as ksend
 use Rattle.sender.proofs.send.Reads as rsend

@@ -1,5 +1,5 @@
 -- 5. Statements over the calls `send` and `empty`, for any results that satisfy their promises.
-use Rattle.std.specs.Prelude.{◌≡◌, ℕ, ◌+◌, ◌<◌, ◌≤◌, cond, List, [], ◌∷◌, ◌++◌, map, length, take, replicate, ◌==◌}
+use Rattle.std.specs.Prelude.{◌≡◌, ℕ, ◌+◌, ◌<◌, ◌≤◌, cond, List, [], ◌∷◌, ◌++◌, map, length, take, replicate, ◌==◌, Ok}
 use Rattle.rules.specs.Limits.{virtual_channels}
 use Rattle.rules.specs.Packets.{joined, cut}
 use Rattle.sender.specs.Stream.{Choice, raw, next}
@@ -8,7 +8,6 @@ use Rattle.sender.specs.Frames.{Wanted, packets_of, empty_frame, frames_of}
 use Rattle.sender.specs.Send.{Lent, observed, sending, Emptied}
 use Rattle.sender.specs.declared.Common.{Common}
 use Rattle.sender.specs.declared.Sent.{Sent}
-use Rattle.sender.specs.declared.SendAnswer.TheVariants as answer
 
 -- A call of `send`: what was wanted, what was lent and as it was left, and what was answered.
 pub record SendCall : Type 0 where
@@ -33,8 +32,8 @@ pub data Call : Type 0 where
 
 -- It was accepted, and did what is promised.
 abbrev pub Does : Call → Type 0
-Does (sends c) = observed (answer.Sent c.sent) c.left.octets c.left.lengths ≡ sending c.wanted c.lent
-Does (empties c) = Emptied c.common c.master c.count c.time c.lent (answer.Sent c.sent) c.left
+Does (sends c) = observed (Ok c.sent) c.left.octets c.left.lengths ≡ sending c.wanted c.lent
+Does (empties c) = Emptied c.common c.master c.count c.time c.lent (Ok c.sent) c.left
 
 abbrev pub common_of : Call → Common
 common_of (sends c) = c.wanted.common

@@ -1,3 +1,4 @@
+pub mod Answers
 pub mod Stream
 pub mod Sender
 pub mod Frames

@@ -1,8 +1,8 @@
 -- 4. Document 02, M-107: what the sender's calls answer, and what they leave of what is lent.
-use Rattle.std.specs.Prelude.{◌≡◌, ℕ, ◌+◌, ◌%◌, Bool, false, not, ◌||◌, List, [], ◌∷◌, map, length, ◌==◌, nat_lt}
+use Rattle.std.specs.Prelude.{◌≡◌, ℕ, ◌+◌, ◌%◌, Bool, false, not, ◌||◌, List, [], ◌∷◌, map, length, ◌==◌, nat_lt, Ok, Err}
 use Rattle.octets.specs.Pick.{pick}
 use Rattle.octets.specs.Parts.{written}
-use Rattle.answer.specs.Told.{Told, accept, refuse, TellsNothing}
+use Rattle.answer.specs.Told.{Told, accept, refuse, TellsNothing, refuse_for}
 use Rattle.answer.specs.Refusals as refusal
 use Rattle.answer.specs.Writer.{left}
 use Rattle.frame.specs.Limits.{longest_data}
@@ -14,8 +14,7 @@ use Rattle.sender.specs.Sender.{sent_octets}
 use Rattle.sender.specs.Frames.{Wanted, packets_of, empty_frame, frames_of}
 use Rattle.sender.specs.declared.Common.{Common}
 use Rattle.sender.specs.declared.Sent.{Sent}
-use Rattle.sender.specs.declared.SendAnswer.{SendAnswer}
-use Rattle.sender.specs.declared.SendAnswer.TheVariants as answer
+use Rattle.sender.specs.Answers.{SendAnswer}
 
 -- Octets for the frames, and a list for their lengths.
 pub record Lent : Type 0 where
@@ -35,8 +34,8 @@ abbrev pub sent_numbers : Sent → List ℕ
 sent_numbers s = s.frames ∷ s.octets ∷ s.master.0 ∷ s.count.0 ∷ []
 
 abbrev pub told : SendAnswer → Told Sent
-told (answer.Sent s) = accept s
-told (answer.Refused n) = refuse no_sent n
+told (Ok s) = accept s
+told (Err n) = refuse_for no_sent n
 
 abbrev pub RefusalsTellNothing : Type 0
 RefusalsTellNothing = TellsNothing told sent_numbers

@@ -1,6 +1,6 @@
 -- 2. The sender: frames of all eight channels, and the octets that the frame writer gives for them.
 use Rattle.std.specs.Prelude.{◌≡◌, ℕ, ◌<◌, ◌≤◌, Bool, true, false, List, [], ◌∷◌, ◌++◌, length, ◌==◌}
-use Rattle.answer.specs.declared.Written.{Written}
+use Rattle.answer.specs.Writer.{Written}
 use Rattle.answer.specs.Writer.{Wrote, Gave}
 use Rattle.frame.specs.declared.Frame.{Frame}
 use Rattle.frame.specs.Write.{fields_wrong, frame_octets}

@@ -1,12 +1,12 @@
 // The frames of packets, one after another.
-ghost use Rattle.std.specs.Prelude.{◌≡◌, ◌+◌, ◌<◌, ◌≤◌, min, length, take, drop};
+ghost use Rattle.std.specs.Prelude.{◌≡◌, ◌+◌, ◌<◌, ◌≤◌, length, take, drop};
 ghost use Rattle.rules.specs.Channel.{pointer_to};
 ghost use Rattle.sender.specs.Stream.{next_count};
 ghost use Rattle.sender.specs.Frames.{wanted, fields_of, full_frames};
 ghost use Rattle.sender.specs.Send.{lent, observed, made, octets_of};
 ghost use Rattle.sender.specs.Asked.{Begun, First, Within, Frameable, Framing, Ready};
 
-use super::{Common, SendAnswer, Sent};
+use super::{Common, Sent};
 use counts::{ChannelCount, MasterCount};
 use frame::Frame;
 
@@ -15,16 +15,6 @@ use frame::Frame;
 struct Next {
     packet: usize,
     start: usize,
-}
-
-// The lesser of two numbers.
-fn least(a: usize, b: usize) -> usize
-    ensures { result ≡ min a b }
-{
-    if a < b {
-        return a;
-    }
-    b
 }
 
 // The count of the frame to follow.
@@ -67,11 +57,9 @@ pub(crate) fn frame(
     requires { n ≤ 251 }
     ensures { result ≡ fields_of common master.0 count.0 (pointer_to place n) n }
 {
-    let destination = common.destination;
-    let source = common.source;
     Frame::new(
-        destination,
-        source,
+        common.destination,
+        common.source,
         common.channel,
         master,
         count,
@@ -98,24 +86,21 @@ fn write(
         out.old result out.new }
 {
     let f = frame(common, master, count, place, n);
-    let end = at + n;
-    f.write(common.t, &packets[at..end], time, out);
-    n + Frame::LEAST + octets::wide(common.t)
+    let _ = f.write(common.t, &packets[at..at + n], time, out);
+    n + Frame::LEAST + usize::from(common.t)
 }
 
 // The first packet that starts at `at` or behind, going on from one whose predecessor started before.
-fn behind(next: Next, lengths: &[u16], at: usize) -> Next
+fn behind(mut next: Next, lengths: &[u16], at: usize) -> Next
     requires begun { Begun lengths.now at next.packet next.start }
     requires within { Within lengths.now at }
     ensures { First lengths.now at result.packet result.start }
 {
-    let mut packet = next.packet;
-    let mut start = next.start;
-    while start < at {
-        start += lengths[packet] as usize;
-        packet += 1;
+    while next.start < at {
+        next.start += usize::from(lengths[next.packet]);
+        next.packet += 1;
     }
-    Next { packet, start }
+    next
 }
 
 // Makes all frames, full of them before the last.
@@ -132,7 +117,7 @@ pub(crate) fn lay(
     frames: &mut [u16],
 ) -> Sent
     requires { Ready (wanted common master count time.now packets.now lengths.now size) full (lent out.old frames.old) }
-    ensures { observed (SendAnswer.Sent result) out.new frames.new
+    ensures { observed (Ok result) out.new frames.new
         ≡ made master.0 count.0
         (octets_of (wanted common master count time.now packets.now lengths.now size))
         (lent out.old frames.old) }
@@ -145,9 +130,8 @@ pub(crate) fn lay(
     let mut own = count.0;
     let mut at: usize = 0;
     let mut end: usize = 0;
-    let mut k: usize = 0;
-    while k <= full {
-        let n = least(size, packets.len() - at);
+    for k in 0..full + 1 {
+        let n = size.min(packets.len() - at);
         let place = next.start - at;
         let length = write(
             common,
@@ -165,11 +149,10 @@ pub(crate) fn lay(
         own = next_count(own);
         at += n;
         end += length;
-        k += 1;
         next = behind(next, lengths, at);
     }
     Sent {
-        frames: k,
+        frames: full + 1,
         octets: end,
         master: MasterCount(all),
         count: ChannelCount(own),

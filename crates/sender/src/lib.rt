@@ -5,7 +5,7 @@ ghost use Rattle.std.specs.Prelude.{◌≡◌};
 ghost use Rattle.sender.specs.Frames.{wanted};
 ghost use Rattle.sender.specs.Send.{lent, observed, sending, Emptied};
 
-use answer::Written;
+use answer::Reason;
 use counts::{ChannelCount, MasterCount};
 use frame::{Address, Frame};
 
@@ -31,13 +31,6 @@ pub struct Sent {
     pub count: ChannelCount,
 }
 
-// What a call answers: what it made, or the refusal's number.
-#[derive(Clone, Copy)]
-pub enum SendAnswer {
-    Sent(Sent),
-    Refused(u16),
-}
-
 // Makes the frames of packets that stand end to end, with their lengths: each takes the next octets, size of them, the last one what is
 // left; no packets give one empty frame. The frames stand end to end at the start of out, their lengths at the start of frames; beyond
 // them both stay. master and count are the first frame's.
@@ -53,27 +46,27 @@ pub fn send(
     size: usize,
     out: &mut [u8],
     frames: &mut [u16],
-) -> SendAnswer
+) -> Result<Sent, Reason>
     ensures { observed result out.new frames.new
         ≡ sending (wanted common master count time.now packets.now lengths.now size)
         (lent out.old frames.old) }
 {
     let total = packets.len();
     if refusing::fields_wrong(common, master, count, time) | lengths::wrong(lengths, total) {
-        return SendAnswer::Refused(answer::FIELD_RANGE);
+        return Err(Reason::FieldRange);
     }
     if refusing::packets_wrong(packets, lengths) {
-        return SendAnswer::Refused(answer::PACKET_TURNED_AWAY);
+        return Err(Reason::PacketTurnedAway);
     }
-    let t = octets::wide(common.t);
+    let t = usize::from(common.t);
     if (size == 0) | (Frame::GREATEST - Frame::LEAST - t < size) {
-        return SendAnswer::Refused(answer::DATA_LENGTH);
+        return Err(Reason::DataLength);
     }
     let full = laying::full_frames(total, size);
     if refusing::room_wrong(out.len(), frames.len(), total, full, t) {
-        return SendAnswer::Refused(answer::OUTPUT_SHORT);
+        return Err(Reason::OutputShort);
     }
-    SendAnswer::Sent(laying::lay(
+    Ok(laying::lay(
         common, master, count, time, packets, lengths, size, full, out, frames,
     ))
 }
@@ -85,17 +78,15 @@ pub fn empty(
     count: ChannelCount,
     time: &[u8],
     out: &mut [u8],
-) -> SendAnswer
+) -> Result<Sent, Reason>
     ensures { Emptied common master.0 count.0 time.now out.old result out.new }
 {
     let f = laying::frame(common, master, count, 0, 0);
-    match f.write(common.t, &time[..0], time, out) {
-        Written::Length(n) => SendAnswer::Sent(Sent {
-            frames: 1,
-            octets: n,
-            master: MasterCount(laying::next_count(master.0)),
-            count: ChannelCount(laying::next_count(count.0)),
-        }),
-        Written::Refused(n) => SendAnswer::Refused(n),
-    }
+    let octets = f.write(common.t, &time[..0], time, out)?;
+    Ok(Sent {
+        frames: 1,
+        octets,
+        master: MasterCount(laying::next_count(master.0)),
+        count: ChannelCount(laying::next_count(count.0)),
+    })
 }

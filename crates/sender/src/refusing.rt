@@ -4,10 +4,10 @@ ghost use Rattle.rules.specs.Packets.{cut, total};
 ghost use Rattle.sender.specs.Send.{common_wrong, turned_away, any_turned_away};
 ghost use Rattle.sender.specs.Asked.{too_short};
 
-use super::{Common, SendAnswer};
+use super::Common;
 use counts::{ChannelCount, MasterCount};
 use frame::Frame;
-use packet::{Packet, PacketRead};
+use packet::Packet;
 
 // Room for any empty frame.
 const EMPTY: usize = Frame::LEAST + Frame::LONGEST_TIME;
@@ -22,20 +22,14 @@ pub(crate) fn fields_wrong(
     ensures { result ≡ common_wrong common master.0 count.0 time.now }
 {
     let mut room = [0u8; EMPTY];
-    match super::empty(common, master, count, time, &mut room) {
-        SendAnswer::Sent(_) => false,
-        SendAnswer::Refused(_) => true,
-    }
+    super::empty(common, master, count, time, &mut room).is_err()
 }
 
 // Whether the packet reader turns a packet away.
 fn turned_away(packet: &[u8]) -> bool
     ensures { result ≡ turned_away packet.now }
 {
-    match Packet::read(packet) {
-        PacketRead::Packet(_) => false,
-        PacketRead::Refused(_) => true,
-    }
+    Packet::read(packet).is_err()
 }
 
 // Refusal 52: a packet that the packet reader turns away.
@@ -44,14 +38,12 @@ pub(crate) fn packets_wrong(packets: &[u8], lengths: &[u16]) -> bool
     ensures { result ≡ any_turned_away (cut packets.now lengths.now) }
 {
     let mut at = 0;
-    let mut i = 0;
-    while i < lengths.len() {
-        let end = at + lengths[i] as usize;
+    for &length in lengths {
+        let end = at + usize::from(length);
         if turned_away(&packets[at..end]) {
             return true;
         }
         at = end;
-        i += 1;
     }
     false
 }

@@ -1,10 +1,11 @@
 // The sender for the test bench.
 #![tactic(auto)]
 
+use answer::Reason;
 use counts::{ChannelCount, MasterCount};
 use format_cases::frames;
 use records::{input, places, text};
-use sender::{Common, SendAnswer};
+use sender::{Common, Sent};
 
 // What the case gives for all frames.
 fn common(c: &[u8]) -> Common {
@@ -26,9 +27,9 @@ fn common(c: &[u8]) -> Common {
 }
 
 // Prints what a call answered.
-fn told(answer: SendAnswer) {
+fn told(answer: Result<Sent, Reason>) {
     match answer {
-        SendAnswer::Sent(s) => text::tell(
+        Ok(s) => text::tell(
             b"accepted frames # octets # master # count #",
             &[
                 s.frames as u64,
@@ -37,7 +38,7 @@ fn told(answer: SendAnswer) {
                 s.count.0 as u64,
             ],
         ),
-        SendAnswer::Refused(n) => text::field(b"refusal ", n as u64),
+        Err(reason) => text::field(b"refusal ", reason.number() as u64),
     }
 }
 

@@ -1,12 +1,16 @@
 -- No two answers, with what they leave, are told alike.
+use Rattle.std.specs.Prelude.{Result, Ok, Err}
 use Prim.Native.Nat.{ℕ}
 use native.Mathlib.Omega.{arith}
-use mathlib.Core.Path.{◌≡◌, refl, ap}
+use mathlib.Core.Path.{◌≡◌, refl, sym, ap, ◌∙◌}
+use mathlib.Core.Bool.{true, true≢false}
 use mathlib.Core.List.{List}
-use Rattle.answer.proofs.Told.{same-fields, same-refusal, accept_or_refuse, refuse_or_accept}
+use Rattle.answer.specs.Told.{Told}
+use Rattle.answer.specs.declared.Reason.{Reason}
+use Rattle.answer.proofs.Told.{same-fields, same-reason}
 use Rattle.sequence.specs.Sequence.{Between, unknown, restart, missing, told, Outcome, observed}
 use Rattle.sequence.specs.declared.Gap.{Gap}
-use Rattle.sequence.specs.declared.Gap.TheVariants.{Unknown, Restart, Missing, Refused}
+use Rattle.sequence.specs.declared.Gap.TheVariants.{Unknown, Restart, Missing}
 
 -- which of the three it is
 abbrev kind : Between → ℕ
@@ -20,25 +24,34 @@ other e n = absurd (n (ap kind e))
 same-missing : {n m : ℕ} → missing n ≡ missing m → n ≡ m
 same-missing e = cc
 
-pub told_apart : (x y : Gap) → told x ≡ told y → x ≡ y
-told_apart Unknown Unknown h = refl
-told_apart Restart Restart h = refl
-told_apart Unknown Restart h = other (same-fields h) (λ z. omega arith)
-told_apart Restart Unknown h = other (same-fields h) (λ z. omega arith)
-told_apart Unknown (Missing m) h = other (same-fields h) (λ z. omega arith)
-told_apart (Missing n) Unknown h = other (same-fields h) (λ z. omega arith)
-told_apart Restart (Missing m) h = other (same-fields h) (λ z. omega arith)
-told_apart (Missing n) Restart h = other (same-fields h) (λ z. omega arith)
-told_apart Restart (Refused m) h = accept_or_refuse h
-told_apart (Refused n) Restart h = refuse_or_accept h
-told_apart Unknown (Refused m) h = accept_or_refuse h
-told_apart (Refused n) Unknown h = refuse_or_accept h
-told_apart (Missing n) (Missing m) h = ap Missing (same-missing (same-fields h))
-told_apart (Refused n) (Refused m) h = ap Refused (same-refusal h)
-told_apart (Missing n) (Refused m) h = accept_or_refuse h
-told_apart (Refused n) (Missing m) h = refuse_or_accept h
+-- the gaps themselves
+gap_apart : (x y : Gap) → told (Ok x) ≡ told (Ok y) → x ≡ y
+gap_apart Unknown Unknown h = refl
+gap_apart Restart Restart h = refl
+gap_apart Unknown Restart h = other (same-fields h) (λ z. omega arith)
+gap_apart Restart Unknown h = other (same-fields h) (λ z. omega arith)
+gap_apart Unknown (Missing m) h = other (same-fields h) (λ z. omega arith)
+gap_apart (Missing n) Unknown h = other (same-fields h) (λ z. omega arith)
+gap_apart Restart (Missing m) h = other (same-fields h) (λ z. omega arith)
+gap_apart (Missing n) Restart h = other (same-fields h) (λ z. omega arith)
+gap_apart (Missing n) (Missing m) h = ap Missing (same-missing (same-fields h))
+
+accepted : (g : Gap) → (told (Ok g)).accepted ≡ true
+accepted Unknown = refl
+accepted Restart = refl
+accepted (Missing n) = refl
+
+-- a gap is accepted, and a refusal is not
+gap-or-refused : {A : Type 0} (g : Gap) (r : Reason) → told (Ok g) ≡ told (Err r) → A
+gap-or-refused g r h = absurd (true≢false (sym (accepted g) ∙ ap (λ (t : Told Between). t.accepted) h))
+
+pub told_apart : (x y : Result Gap Reason) → told x ≡ told y → x ≡ y
+told_apart (Ok g) (Ok k) h = ap Ok (gap_apart g k h)
+told_apart (Err n) (Err m) h = ap Err (same-reason n m h)
+told_apart (Ok g) (Err r) h = gap-or-refused g r h
+told_apart (Err r) (Ok g) h = gap-or-refused g r (sym h)
 
 -- the answer and the list of an outcome
-pub observed_apart : {x y : Gap} {l m : List ℕ} → observed x l ≡ observed y m → ◌≡◌ {A = Gap × List ℕ} (x, l) (y, m)
+pub observed_apart : {x y : Result Gap Reason} {l m : List ℕ} → observed x l ≡ observed y m → ◌≡◌ {A = Result Gap Reason × List ℕ} (x, l) (y, m)
 observed_apart {x} {y} h =
     simp (told_apart x y (ap (λ (o : Outcome). o.answer) h), ap (λ (o : Outcome). o.list) h)

@@ -1,12 +1,13 @@
 -- Document 01, 'Image and sequence': the sequence gap over a list of one number an APID, 0 for none yet, else last count + 1.
-use Rattle.std.specs.Prelude.{ℕ, ◌+◌, ◌-◌, ◌≡◌, Bool, false, not, ◌&&◌, ◌||◌, List, length, set, ltb, eqb}
+use Rattle.std.specs.Prelude.{ℕ, ◌+◌, ◌-◌, ◌≡◌, Bool, false, not, ◌&&◌, ◌||◌, List, length, set, ltb, eqb, Result, Ok, Err}
 use Rattle.octets.specs.Numbers.{at}
 use Rattle.octets.specs.Pick.{pick}
-use Rattle.answer.specs.Told.{Told, accept, refuse}
+use Rattle.answer.specs.Told.{Told, accept, refuse, refuse_for}
+use Rattle.answer.specs.declared.Reason.{Reason}
 use Rattle.answer.specs.Refusals.{list_short, entry, count_range}
 use Rattle.counts.specs.Gap.{gap}
 use Rattle.sequence.specs.declared.Gap.{Gap}
-use Rattle.sequence.specs.declared.Gap.TheVariants.{Unknown, Restart, Missing, Refused}
+use Rattle.sequence.specs.declared.Gap.TheVariants.{Unknown, Restart, Missing}
 
 -- One entry an APID.
 abbrev pub entries : ℕ
@@ -18,11 +19,11 @@ pub data Between : Type 0 where
   missing : ℕ → Between
 
 -- An answer tells it, or the refusal and 0.
-abbrev pub told : Gap → Told Between
-told Unknown = accept unknown
-told Restart = accept restart
-told (Missing n) = accept (missing n)
-told (Refused n) = refuse (missing 0) n
+abbrev pub told : Result Gap Reason → Told Between
+told (Ok Unknown) = accept unknown
+told (Ok Restart) = accept restart
+told (Ok (Missing n)) = accept (missing n)
+told (Err r) = refuse_for (missing 0) r
 
 -- Count 0 after any last count but 16,383.
 abbrev pub restarts : ℕ → ℕ → Bool
@@ -39,7 +40,7 @@ pub record Outcome : Type 0 where
   pub answer : Told Between
   pub list : List ℕ
 
-abbrev pub observed : Gap → List ℕ → Outcome
+abbrev pub observed : Result Gap Reason → List ℕ → Outcome
 observed answer list = record { answer = told answer; list = list }
 
 -- A refusal: its number, and the list stays.
@@ -57,5 +58,5 @@ outcome apid count list =
 -- A refusal tells 0 in every other field, and the list stays.
 abbrev pub RefusalLeavesAll : Type 0
 RefusalLeavesAll =
-    (apid count : ℕ) (before : List ℕ) (answer : Gap) (after : List ℕ) → observed answer after ≡ outcome apid count before
+    (apid count : ℕ) (before : List ℕ) (answer : Result Gap Reason) (after : List ℕ) → observed answer after ≡ outcome apid count before
     → (told answer).accepted ≡ false → ((told answer).fields ≡ missing 0) × (after ≡ before)

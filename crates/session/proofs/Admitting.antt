@@ -1,7 +1,8 @@
 -- Laws of the gate: refusals 1, 4 and 3.
+use Rattle.std.specs.Prelude.{Option, Err, Some, None}
 use Prim.Native.Nat.{ℕ}
 use native.Mathlib.Omega.{arith}
-use mathlib.Core.Path.{◌≡◌, refl, sym, ap, ◌∙◌, subst}
+use mathlib.Core.Path.{◌≡◌, refl, sym, ◌∙◌, subst}
 use mathlib.Core.Bool.{Bool, true, false, true≢false}
 use lib.Dec.{eqb}
 use borrow.Author.Tests.{eq-eqb, ne_eqb, eqb-true, eqb-false}
@@ -13,10 +14,9 @@ use Rattle.answer.specs.declared.Refusal.{Refusal}
 use Rattle.rules.specs.Limits.{last_number}
 use Rattle.session.specs.Channel.{unsound}
 use Rattle.session.specs.Lent.{Lent, scant, Enough}
-use Rattle.session.specs.Step.{Outcome, refused_at, refused, barred, admitted, Gives}
+use Rattle.session.specs.Step.{Outcome, refused_at, refused, barred, refusal_if, admitted, Gives}
 use Rattle.session.specs.declared.Session.{Session}
 use Rattle.session.specs.declared.Stepped.{Stepped}
-use Rattle.session.specs.declared.StepAnswer.TheVariants as answer
 use Rattle.session.proofs.Lending.{enough, not_scant}
 
 -- what is known where none of them holds
@@ -60,7 +60,7 @@ roomy s l o k u = go (eqb s.arrival last_number) refl
 -- ---- what is given
 
 abbrev pub turned_down : Session → Refusal → Stepped
-turned_down s r = record { session = s; answer = answer.Refused r }
+turned_down s r = record { session = s; answer = Err r }
 
 pub gives-refused : (s : Session) (r : Refusal) (l : Lent) → Gives (refused_at s r.number r.octet) (turned_down s r) l l
 gives-refused s r l = record { session = refl; answers = refl; leaves = refl }
@@ -69,15 +69,30 @@ gives-refused s r l = record { session = refl; answers = refl; leaves = refl }
 pub gives-plain : (s : Session) (n : ℕ) {r : Refusal} → r ≡ plain n → (l : Lent) → Gives (refused s n) (turned_down s r) l l
 gives-plain s n e l = subst (λ (x : Refusal). Gives (refused s n) (turned_down s x) l l) (sym e) (gives-refused s (plain n) l)
 
--- with what the gate answered
-module _ (s : Session) (l : Lent) {n : ℕ} (e : n ≡ barred s l) where
-  pub bars : (n ≡ 0 → ⊥) → {r : Refusal} → r ≡ plain n → (o : Outcome) → Gives (admitted s l o) (turned_down s r) l l
-  bars z {r} p o =
-      let no : eqb (barred s l) 0 ≡ false = ne_eqb (barred s l) 0 (λ h. z (e ∙ h)) in
-      subst (λ (x : Outcome). Gives x (turned_down s r) l l)
-      (passed (eqb (barred s l) 0) o (refused s (barred s l)) (refused s n) no (ap (refused s) e)) (gives-plain s n p l)
+-- what the gate answers, by the refusal's number
+refused_by : (n : ℕ) {r : Refusal} → Some r ≡ refusal_if n → (n ≡ 0 → ⊥) × (r ≡ plain n)
+refused_by n {r} e =
+    let h = not_picked (eqb n 0) None (Some (plain n)) (Some r) (sym e) (λ h. cc) in
+    let p = h.1 in
+    (eqb-false n 0 h.0, cc)
 
-  pub passes : n ≡ 0 → (o : Outcome) (r : Stepped) (l' : Lent) → Gives o r l l' → Gives (admitted s l o) r l l'
-  passes z o r l' g =
+open_by : (n : ℕ) → None ≡ refusal_if n → n ≡ 0
+open_by n e =
+    picks (λ (o : Option Refusal). None ≡ o → n ≡ 0) (eqb n 0) None (Some (plain n)) (λ b h. eqb-true n 0 b) (λ b h. cc) e
+
+-- with what the gate answered
+module _ (s : Session) (l : Lent) {a : Option Refusal} (e : a ≡ refusal_if (barred s l)) where
+  pub bars : {r : Refusal} → a ≡ Some r → (o : Outcome) → Gives (admitted s l o) (turned_down s r) l l
+  bars {r} h o =
+      let b = refused_by (barred s l) (sym h ∙ e) in
+      subst (λ (x : Outcome). Gives x (turned_down s r) l l)
+      (passed (eqb (barred s l) 0) o (refused s (barred s l)) (refused s (barred s l)) (ne_eqb (barred s l) 0 b.0) refl)
+      (gives-plain s (barred s l) b.1 l)
+
+  pub opens : a ≡ None → Admits s l
+  opens h = admits s l (open_by (barred s l) (sym h ∙ e))
+
+  pub passes : a ≡ None → (o : Outcome) (r : Stepped) (l' : Lent) → Gives o r l l' → Gives (admitted s l o) r l l'
+  passes h o r l' g =
       subst (λ (x : Outcome). Gives x r l l')
-      (picked (eqb (barred s l) 0) o (refused s (barred s l)) (eq-eqb (barred s l) 0 (sym e ∙ z))) g
+      (picked (eqb (barred s l) 0) o (refused s (barred s l)) (eq-eqb (barred s l) 0 (open_by (barred s l) (sym h ∙ e)))) g

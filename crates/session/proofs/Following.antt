@@ -1,4 +1,5 @@
 -- Rules 1 to 4 by the tests that the code makes.
+use Rattle.std.specs.Prelude.{Some, None, unwrap_or}
 use Prim.Native.Nat.{ℕ, zero, suc, ◌-◌, ◌≤◌, ◌<◌}
 use native.Mathlib.Omega.{arith}
 use mathlib.Core.Path.{◌≡◌, refl, sym, ap, ◌∙◌, subst}
@@ -9,7 +10,7 @@ use lib.ListN.{length, take, drop, length-drop, drop_of_length-le}
 use lib.Seq.{take_all}
 use lib.Dec.{eqb}
 use borrow.Author.Tests.{eq-eqb, ne_eqb}
-use Rattle.counts.specs.declared.Loss.{Loss}
+use Rattle.counts.specs.Loss.{Loss}
 use Rattle.counts.specs.Lost.{last_of, lost_since, number}
 use Rattle.rules.specs.Channel.{held_of, begun_in, cleared, nothing, Work, out_of_step, holding, feed, fits, dropped, enter, follow, after_loss}
 use Rattle.rules.specs.Channel.{step}
@@ -75,6 +76,11 @@ carries-all c zero k b u h l ek eb =
       sound = passing-sound c.instep c.length c.held u;
       work = λ a pointer xs. refl;
     }))
+
+-- unknown is taken as 0
+pub known_number : (n : Loss) → unwrap_or n 0 ≡ number n
+known_number None = refl
+known_number (Some n) = refl
 
 -- as the step of a channel has it
 pub steps : (c : Channel) (lost : Loss) (k : ℕ) (in_step : Bool) → Carries c (number lost) k in_step → (head : Head) (xs : List ℕ)

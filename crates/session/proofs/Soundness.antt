@@ -1,13 +1,11 @@
 -- Laws of refusal 4.
-use Prim.Native.Nat.{ℕ, zero, suc, ◌+◌, ◌≤◌, ◌<◌}
+use Prim.Native.Nat.{ℕ, zero, suc, ◌≤◌, ◌<◌}
 use native.Mathlib.Nat.{le_of_suc-le-suc, not-suc-le-zero}
-use native.Mathlib.Numerals.{add-one}
 use native.Mathlib.Omega.{arith}
 use mathlib.Core.Path.{◌≡◌, refl, sym, ap, ◌∙◌}
 use mathlib.Core.Bool.{Bool, true, false, not, ◌&&◌, ◌||◌}
 use mathlib.Core.List.{List, [], ◌∷◌, map}
-use lib.ListN.{length, drop, get_or, drop_of_length-le}
-use lib.Seq.{drop-cons}
+use lib.ListN.{length, get_or}
 use lib.Dec.{ltb, leb}
 use borrow.Author.Tests.{lt-ltb, le-ltb, le-leb, lt-leb, ltb-false}
 use Rattle.octets.proofs.Tests.{or_left, or_right}
@@ -32,20 +30,7 @@ within-list [] i c d h = absurd (not-suc-le-zero h)
 within-list (x ∷ l) zero c d h = refl
 within-list (x ∷ l) (suc i) c d h = within-list l i c d (le_of_suc-le-suc h)
 
--- ---- one channel after another
-
-module _ (l : List Channel) (i : ℕ) (d : Channel) (h : i < length l) where
-  any_step : any_unsound (drop i l) ≡ (channel_unsound (get_or l i d) || any_unsound (drop (i + 1) l))
-  any_step = ap any_unsound (drop-cons l i d h) ∙ rw add-one
-
-  pub any_here : channel_unsound (get_or l i d) ≡ true → any_unsound (drop i l) ≡ true
-  any_here e = any_step ∙ rw e
-
-  pub any_next : channel_unsound (get_or l i d) ≡ false → any_unsound (drop i l) ≡ any_unsound (drop (i + 1) l)
-  any_next e = any_step ∙ rw e
-
-pub any_end : (l : List Channel) (i : ℕ) → length l ≤ i → any_unsound (drop i l) ≡ false
-any_end l i h = ap any_unsound (drop_of_length-le l h)
+-- ---- a session
 
 pub unsound-time : (s : Session) → 8 < s.t → unsound s ≡ true
 unfolding unsound

@@ -1,4 +1,5 @@
 -- What a step gives, from what its parts gave.
+use Rattle.std.specs.Prelude.{Ok}
 use Prim.Native.Nat.{ℕ}
 use native.Mathlib.Omega.{arith}
 use mathlib.Core.Path.{◌≡◌, sym, ap, ◌∙◌, subst}
@@ -7,9 +8,10 @@ use mathlib.Core.Logic.{⊎_elim}
 use mathlib.Core.List.{List}
 use lib.ListN.{length, set}
 use Rattle.octets.specs.Pick.{pick}
-use Rattle.answer.specs.Told.{accept, refuse_at}
+use Rattle.answer.specs.Told.{accept, refuse_for, refusal_of, number_of, octet_of}
+use Rattle.answer.specs.declared.Reason.{Reason}
 use Rattle.answer.specs.declared.Refusal.{Refusal}
-use Rattle.counts.specs.declared.Loss.{Loss}
+use Rattle.counts.specs.Loss.{Loss}
 use Rattle.counts.specs.Lost.{last_of, lost_since}
 use Rattle.frame.specs.Frame.{no_frame, read_frame, data_of}
 use Rattle.frame.specs.Back.{PointerRight, Accepted}
@@ -17,13 +19,12 @@ use Rattle.frame.specs.declared.Frame.{Frame}
 use Rattle.rules.specs.Channel.{step}
 use Rattle.session.specs.Channel.{view, channel_unsound}
 use Rattle.session.specs.Lent.{Lent, Enough}
-use Rattle.session.specs.Step.{Outcome, channel_at, piece_of, ruled, accepted, heeded, Gives}
+use Rattle.session.specs.Step.{Outcome, refused_at, channel_at, piece_of, ruled, accepted, heeded, Gives}
 use Rattle.session.specs.Asked.{Points, Asked}
 use Rattle.session.specs.Promised.{head_of, headed, Heeds}
 use Rattle.session.specs.declared.Channel.{Channel}
 use Rattle.session.specs.declared.Session.{Session}
 use Rattle.session.specs.declared.Stepped.{Stepped}
-use Rattle.session.specs.declared.StepAnswer.TheVariants as answer
 use Rattle.session.specs.declared.channels.Head.{Head}
 use Rattle.session.specs.declared.channels.Heeded.{Heeded}
 use Rattle.session.proofs.Admitting.{turned_down, gives-refused}
@@ -51,7 +52,7 @@ module _ (s : Session) (f : Frame) (xs : List ℕ) (master : Loss) (c : Channel)
               channels = set s.channels f.channel
                   r.channel;
             };
-        answer = answer.Accepted (record {
+        answer = Ok (record {
           arrival = s.arrival;
           channel = f.channel;
           lost = r.lost;
@@ -87,9 +88,13 @@ module _ (s : Session) (frame : List ℕ) (l : Lent) where
   abbrev told : Outcome
   told = heeded s frame (read_frame s.t frame)
 
-  pub not_read : (r : Refusal) → refuse_at no_frame r.number r.octet ≡ read_frame s.t frame → Gives told (turned_down s r) l l
+  pub not_read : (r : Reason) → refuse_for no_frame r ≡ read_frame s.t frame → {a : Refusal} → a ≡ refusal_of r
+      → Gives told (turned_down s a) l l
   unfolding pick
-  not_read r e = subst (λ (o : Outcome). Gives o (turned_down s r) l l) (ap (heeded s frame) e) (gives-refused s r l)
+  not_read r e {a} h =
+      subst (λ (o : Outcome). Gives o (turned_down s a) l l) (ap (heeded s frame) e)
+      (subst (λ (x : Refusal). Gives (refused_at s (number_of r) (octet_of r)) (turned_down s x) l l) (sym h)
+      (gives-refused s (refusal_of r) l))
 
   pub read : (f : Frame) (xs : List ℕ) (r : Stepped) (l' : Lent) → accept f ≡ read_frame s.t frame → xs ≡ data_of f frame
       → Gives (accepted s f xs) r l l' → Gives told r l l'

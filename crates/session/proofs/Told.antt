@@ -1,37 +1,36 @@
 -- No two answers are told alike, what refusals tell, and what the contracts leave.
+use Rattle.std.specs.Prelude.{Ok, Err}
 use Prim.Native.Nat.{ℕ}
 use mathlib.Core.Path.{◌≡◌, refl, sym, ap, ◌∙◌}
 use mathlib.Core.Bool.{true≢false}
 use borrow.Author.Tests.{lt-ltb}
 use Rattle.octets.specs.Pick.{pick}
-use Rattle.answer.proofs.Told.{same-fields, same-refusal, same-refusal-at, accept_or_refuse, refuse_or_accept}
+use Rattle.answer.proofs.Told.{same-fields, same-reason, same-refusal-at, accept_or_refuse, refuse_or_accept}
 use Rattle.session.specs.Open as opening
 use Rattle.session.specs.Lent.{Lent}
 use Rattle.session.specs.Step as stepping
 use Rattle.session.specs.Statements.{RefusalsTell0, RefusedFresh}
 use Rattle.session.specs.declared.Session.{Session}
 use Rattle.session.specs.declared.Opened.{Opened}
-use Rattle.session.specs.declared.OpenAnswer.{OpenAnswer}
-use Rattle.session.specs.declared.OpenAnswer.TheVariants as opens
+use Rattle.session.specs.Answers.{OpenAnswer}
 use Rattle.session.specs.declared.Stepped.{Stepped}
-use Rattle.session.specs.declared.StepAnswer.{StepAnswer}
-use Rattle.session.specs.declared.StepAnswer.TheVariants as steps
+use Rattle.session.specs.Answers.{StepAnswer}
 
 pub open_told_apart : (x y : OpenAnswer) → opening.told x ≡ opening.told y → x ≡ y
-open_told_apart opens.Accepted opens.Accepted h = refl
-open_told_apart (opens.Refused n) (opens.Refused m) h = ap opens.Refused (same-refusal h)
-open_told_apart opens.Accepted (opens.Refused m) h = accept_or_refuse h
-open_told_apart (opens.Refused n) opens.Accepted h = refuse_or_accept h
+open_told_apart (Ok a) (Ok b) h = refl
+open_told_apart (Err n) (Err m) h = ap Err (same-reason n m h)
+open_told_apart (Ok a) (Err m) h = accept_or_refuse h
+open_told_apart (Err n) (Ok b) h = refuse_or_accept h
 
 pub step_told_apart : (x y : StepAnswer) → stepping.told x ≡ stepping.told y → x ≡ y
-step_told_apart (steps.Accepted a) (steps.Accepted b) h = ap steps.Accepted (same-fields h)
-step_told_apart (steps.Refused n) (steps.Refused m) h = ap steps.Refused (same-refusal-at n m h)
-step_told_apart (steps.Accepted a) (steps.Refused m) h = accept_or_refuse h
-step_told_apart (steps.Refused n) (steps.Accepted a) h = refuse_or_accept h
+step_told_apart (Ok a) (Ok b) h = ap Ok (same-fields h)
+step_told_apart (Err n) (Err m) h = ap Err (same-refusal-at n m h)
+step_told_apart (Ok a) (Err m) h = accept_or_refuse h
+step_told_apart (Err n) (Ok a) h = refuse_or_accept h
 
 pub refusals_tell_0 : RefusalsTell0
-refusals_tell_0 (steps.Accepted a) h = absurd (true≢false h)
-refusals_tell_0 (steps.Refused n) h = record { arrival = refl; channel = refl; lost = refl; master = refl; packets = refl; headers = refl }
+refusals_tell_0 (Ok a) h = absurd (true≢false h)
+refusals_tell_0 (Err n) h = record { arrival = refl; channel = refl; lost = refl; master = refl; packets = refl; headers = refl }
 
 pub refused-fresh : RefusedFresh
 unfolding opening.opening pick

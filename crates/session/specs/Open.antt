@@ -1,20 +1,19 @@
 -- Opening: refusal 2, and the fresh session.
-use Rattle.std.specs.Prelude.{ℕ, ◌≡◌, false, replicate, ltb}
+use Rattle.std.specs.Prelude.{ℕ, ◌≡◌, false, replicate, ltb, Ok, Err}
 use Rattle.octets.specs.Pick.{pick}
-use Rattle.answer.specs.Told.{Told, accept, refuse}
+use Rattle.answer.specs.Told.{Told, accept, refuse, refuse_for}
 use Rattle.answer.specs.Refusals.{time_length}
 use Rattle.frame.specs.Limits.{longest_time}
 use Rattle.rules.specs.Limits.{virtual_channels}
 use Rattle.session.specs.Channel.{fresh}
 use Rattle.session.specs.declared.Session.{Session}
 use Rattle.session.specs.declared.Opened.{Opened}
-use Rattle.session.specs.declared.OpenAnswer.{OpenAnswer}
-use Rattle.session.specs.declared.OpenAnswer.TheVariants.{Accepted, Refused}
+use Rattle.session.specs.Answers.{OpenAnswer}
 
 -- An opening's answer tells no more than whether it is accepted, and the refusal.
 abbrev pub told : OpenAnswer → Told (Unit {0})
-told Accepted = accept tt
-told (Refused n) = refuse tt n
+told (Ok tt) = accept tt
+told (Err n) = refuse_for tt n
 
 -- A fresh session: nothing heard yet, and the last arrival number used.
 abbrev pub opened : ℕ → ℕ → Session

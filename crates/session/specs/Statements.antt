@@ -1,10 +1,9 @@
 -- What refusals tell and leave.
-use Rattle.std.specs.Prelude.{ℕ, ◌+◌, ◌<◌, ◌≡◌, List, Bool, true, false, ◌||◌, eqb}
+use Rattle.std.specs.Prelude.{ℕ, ◌+◌, ◌<◌, ◌≡◌, List, Bool, true, false, ◌||◌, eqb, Some}
 use contract.Lifetimes.{Lfts}
 use denote.Triple.Clauses.{AtExit}
 use borrow.Fn.Kinds.{ParamKind, ResultKind, Dens, Out, res_t, ended_of}
 use Rattle.answer.specs.Refusals as no
-use Rattle.counts.specs.declared.Loss.TheVariants.{Known}
 use Rattle.frame.specs.Limits.{longest_time}
 use Rattle.stretch.specs.Stretch.{Stretch, found, unread}
 use Rattle.session.specs.Lent.{Lent}
@@ -12,15 +11,15 @@ use Rattle.session.specs.Open.{opening}
 use Rattle.session.specs.Step.{told, Outcome, outcome, turned_away}
 use Rattle.session.specs.declared.Session.{Session}
 use Rattle.session.specs.declared.Accepted.{Accepted}
-use Rattle.session.specs.declared.StepAnswer.{StepAnswer}
+use Rattle.session.specs.Answers.{StepAnswer}
 use Rattle.session.specs.declared.Stepped.{Stepped}
 
 -- A refusal's answer holds its number and 0 in every other field, never unknown.
 pub record AllZero (a : Accepted) : Type 0 where
   pub arrival : a.arrival ≡ 0
   pub channel : a.channel ≡ 0
-  pub lost : a.lost ≡ Known 0
-  pub master : a.master ≡ Known 0
+  pub lost : a.lost ≡ Some 0
+  pub master : a.master ≡ Some 0
   pub packets : a.packets ≡ 0
   pub headers : a.headers ≡ 0
 

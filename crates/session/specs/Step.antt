@@ -1,11 +1,11 @@
 -- A step: what a session makes of a frame, by document 01, 'The session'.
-use Rattle.std.specs.Prelude.{ℕ, ◌+◌, ◌≡◌, List, [], true, length, get_or, set, eqb}
+use Rattle.std.specs.Prelude.{ℕ, ◌+◌, ◌≡◌, List, [], true, length, get_or, set, eqb, Option, Ok, Err, Some, None}
 use Rattle.octets.specs.Pick.{pick}
-use Rattle.answer.specs.Told.{Told, accept, refuse_at}
+use Rattle.answer.specs.Told.{Told, accept, refuse_at, plain}
 use Rattle.answer.specs.Refusals as no
+use Rattle.answer.specs.declared.Refusal.{Refusal}
 use Rattle.frame.specs.Frame.{read_frame, data_of}
 use Rattle.frame.specs.declared.Frame.{Frame}
-use Rattle.counts.specs.declared.Loss.TheVariants.{Known}
 use Rattle.counts.specs.Lost.{last_of, lost_since}
 use Rattle.rules.specs.Limits.{last_number}
 use Rattle.rules.specs.Channel.{Piece, Handed, Answer, step}
@@ -15,16 +15,15 @@ use Rattle.session.specs.declared.Channel.{Channel}
 use Rattle.session.specs.declared.Session.{Session}
 use Rattle.session.specs.declared.Stepped.{Stepped}
 use Rattle.session.specs.declared.Accepted.{Accepted}
-use Rattle.session.specs.declared.StepAnswer.{StepAnswer}
-use Rattle.session.specs.declared.StepAnswer.TheVariants as answer
+use Rattle.session.specs.Answers.{StepAnswer}
 
 -- Every field 0.
 abbrev pub nothing_told : Accepted
-nothing_told = record { arrival = 0; channel = 0; lost = Known 0; master = Known 0; packets = 0; headers = 0 }
+nothing_told = record { arrival = 0; channel = 0; lost = Some 0; master = Some 0; packets = 0; headers = 0 }
 
 abbrev pub told : StepAnswer → Told Accepted
-told (answer.Accepted a) = accept a
-told (answer.Refused r) = refuse_at nothing_told r.number r.octet
+told (Ok a) = accept a
+told (Err r) = refuse_at nothing_told r.number r.octet
 
 -- The next session, the answer, and the packets handed out.
 pub record Outcome : Type 0 where
@@ -85,6 +84,10 @@ heeded s frame r = pick r.accepted (accepted s r.fields (data_of r.fields frame)
 -- Refusals 1, 4 and 3 in this order; 0 if none holds.
 unfoldable pub barred : Session → Lent → ℕ
 barred s l = pick (scant l) no.room (pick (unsound s) no.session (pick (eqb s.arrival last_number) no.arrivals 0))
+
+-- The refusal of that number, if it is not 0.
+abbrev pub refusal_if : ℕ → Option Refusal
+refusal_if n = pick (eqb n 0) None (Some (plain n))
 
 -- The gate for all that is offered: where none of them holds, o.
 abbrev pub admitted : Session → Lent → Outcome → Outcome

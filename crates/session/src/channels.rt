@@ -7,7 +7,7 @@ ghost use Rattle.session.specs.Asked.{Asked, Followable, Left, Taken};
 ghost use Rattle.session.specs.Promised.{head_of, headed, Takes, Follows, Heeds};
 
 use super::{Channel, cutting};
-use counts::{ChannelCount, Loss};
+use counts::ChannelCount;
 use frame::Frame;
 use packet::Packet;
 
@@ -24,10 +24,9 @@ impl Head {
     pub(crate) fn of(arrival: u32, f: Frame) -> Head
         ensures { result ≡ head_of arrival f }
     {
-        let count = f.count;
         Head {
             arrival,
-            count,
+            count: f.count,
             pointer: f.pointer,
         }
     }
@@ -37,7 +36,7 @@ impl Head {
 #[derive(Clone, Copy)]
 pub(crate) struct Heeded {
     pub channel: Channel,
-    pub lost: Loss,
+    pub lost: Option<u8>,
     pub packets: u8,
     pub headers: u8,
 }
@@ -98,12 +97,11 @@ impl Channel {
         let mut held = [0u8; Channel::HELD];
         octets::put(&mut held, 0, front);
         octets::put(&mut held, k, back);
-        let begun = cutting::begun(0, first, n);
         Channel {
             last: count,
             heard: true,
             instep,
-            first: begun,
+            first: cutting::begun(0, first, n),
             length: n as u8,
             held,
         }
@@ -145,13 +143,10 @@ impl Channel {
             (lent octets.old lengths.old firsts.old)
             (lent octets.new lengths.new firsts.new) }
     {
-        let held = self.held;
-        let last = self.last;
-        let count = head.count;
-        let lost = count.lost(self.heard, last);
+        let lost = head.count.lost(self.heard, self.last);
         let mut k = self.length as usize;
         let mut instep = self.instep;
-        if 0 < lost.number() {
+        if 0 < lost.unwrap_or(0) {
             k = 0;
             instep = false;
         }
@@ -159,15 +154,14 @@ impl Channel {
             head,
             instep,
             self.first,
-            &held[..k],
+            &self.held[..k],
             data,
             octets,
             lengths,
             firsts,
         );
-        let channel = followed.channel;
         Heeded {
-            channel,
+            channel: followed.channel,
             lost,
             packets: followed.packets,
             headers: followed.headers,
@@ -193,10 +187,8 @@ fn follow(
         (lent octets.new lengths.new firsts.new) }
 {
     if head.pointer == Frame::RAW_DATA {
-        let count = head.count;
-        let channel = Channel::holding(count, instep, first, held, &data[..0]);
         return Followed {
-            channel,
+            channel: Channel::holding(head.count, instep, first, held, &data[..0]),
             packets: 0,
             headers: 0,
         };
@@ -250,13 +242,9 @@ fn take(
 {
     let cut = cutting::cut(first, head.arrival, held, data, lengths, firsts);
     cutting::hand_out(held, data, cut.octets, octets);
-    let count = head.count;
-    let channel = Channel::left(count, on & cut.instep, cut.first, held, data, cut.kept);
-    let packets = cut.packets as u8;
-    let headers = cutting::completed(dropped, cut.headers, held.len()) as u8;
     Followed {
-        channel,
-        packets,
-        headers,
+        channel: Channel::left(head.count, on & cut.instep, cut.first, held, data, cut.kept),
+        packets: cut.packets as u8,
+        headers: cutting::completed(dropped, cut.headers, held.len()) as u8,
     }
 }

@@ -5,12 +5,12 @@ ghost use Rattle.std.specs.Prelude.{◌≡◌};
 ghost use Rattle.session.specs.Channel.{unsound};
 ghost use Rattle.session.specs.Open.{opened, Opens};
 ghost use Rattle.session.specs.Lent.{lent, scant};
-ghost use Rattle.session.specs.Step.{barred, Steps, TurnsAway};
+ghost use Rattle.session.specs.Step.{barred, refusal_if, Steps, TurnsAway};
 
-use answer::Refusal;
+use answer::{Reason, Refusal};
 use channels::Head;
-use counts::{ChannelCount, Loss, MasterCount};
-use frame::{Frame, FrameRead};
+use counts::{ChannelCount, MasterCount};
+use frame::Frame;
 
 mod channels;
 mod cutting;
@@ -37,18 +37,11 @@ pub struct Session {
     pub channels: [Channel; Session::CHANNELS],
 }
 
-// What opening answers: accepted, or the refusal's number.
-#[derive(Clone, Copy)]
-pub enum OpenAnswer {
-    Accepted,
-    Refused(u16),
-}
-
 // The opened session beside the answer.
 #[derive(Clone, Copy)]
 pub struct Opened {
     pub session: Session,
-    pub answer: OpenAnswer,
+    pub answer: Result<(), Reason>,
 }
 
 // An accepted frame: its arrival number and channel, the frames lost on it and over all, how many packets were handed out, and how many
@@ -57,24 +50,17 @@ pub struct Opened {
 pub struct Accepted {
     pub arrival: u32,
     pub channel: u8,
-    pub lost: Loss,
-    pub master: Loss,
+    pub lost: Option<u8>,
+    pub master: Option<u8>,
     pub packets: u8,
     pub headers: u8,
-}
-
-// What a step answers: an accepted frame, or the refusal.
-#[derive(Clone, Copy)]
-pub enum StepAnswer {
-    Accepted(Accepted),
-    Refused(Refusal),
 }
 
 // The next session beside the answer.
 #[derive(Clone, Copy)]
 pub struct Stepped {
     pub session: Session,
-    pub answer: StepAnswer,
+    pub answer: Result<Accepted, Refusal>,
 }
 
 impl Session {
@@ -111,16 +97,14 @@ impl Session {
         ensures { Opens t last result }
     {
         if Session::TIME < t {
-            let session = Session::fresh(0, 0);
             return Opened {
-                session,
-                answer: OpenAnswer::Refused(answer::TIME_LENGTH),
+                session: Session::fresh(0, 0),
+                answer: Err(Reason::TimeLength),
             };
         }
-        let session = Session::fresh(t, last);
         Opened {
-            session,
-            answer: OpenAnswer::Accepted,
+            session: Session::fresh(t, last),
+            answer: Ok(()),
         }
     }
 
@@ -128,33 +112,23 @@ impl Session {
     fn unsound(self) -> bool
         ensures { result ≡ unsound self }
     {
-        if Session::TIME < self.t {
-            return true;
-        }
-        let mut i = 0;
-        while i < Session::CHANNELS {
-            if self.channels[i].unsound() {
-                return true;
-            }
-            i += 1;
-        }
-        false
+        Session::TIME < self.t || self.channels.iter().any(|c| c.unsound())
     }
 
-    // The first of refusals 1, 4 and 3 that holds; 0 if none does.
-    fn barred(self, octets: &[u8], lengths: &[u16], firsts: &[u32]) -> u16
-        ensures { result ≡ barred self (lent octets.now lengths.now firsts.now) }
+    // The first of refusals 1, 4 and 3 that holds, if one does.
+    fn barred(self, octets: &[u8], lengths: &[u16], firsts: &[u32]) -> Option<Refusal>
+        ensures { result ≡ refusal_if (barred self (lent octets.now lengths.now firsts.now)) }
     {
         if scant(octets, lengths, firsts) {
-            return answer::ROOM;
+            return Some(Refusal::of(Reason::Room));
         }
         if self.unsound() {
-            return answer::SESSION;
+            return Some(Refusal::of(Reason::Session));
         }
         if self.arrival == Session::LAST {
-            return answer::ARRIVALS;
+            return Some(Refusal::of(Reason::Arrivals));
         }
-        0
+        None
     }
 
     // The session after a frame is offered; the packets that it completes are end to end at the start of octets, their lengths at the
@@ -172,69 +146,61 @@ impl Session {
             (lent octets.old lengths.old firsts.old) result
             (lent octets.new lengths.new firsts.new) }
     {
-        let answer;
-        let bar = self.barred(octets, lengths, firsts);
-        if bar != 0 {
-            answer = StepAnswer::Refused(Refusal::plain(bar));
-        } else {
-            self.arrival += 1;
-            match Frame::read(self.t, frame) {
-                FrameRead::Refused(refusal) => {
-                    answer = StepAnswer::Refused(refusal);
-                }
-                FrameRead::Frame(f) => {
-                    let i = f.channel as usize;
-                    let head = Head::of(self.arrival, f);
-                    let heeded = self.channels[i].heed(
-                        head,
-                        f.data(frame),
-                        octets,
-                        lengths,
-                        firsts,
-                    );
-                    let channel = heeded.channel;
-                    let last = self.master;
-                    let master = f.master;
-                    let lost = master.lost(self.heard, last);
-                    self.channels[i] = channel;
-                    self.master = master;
-                    self.heard = true;
-                    let on = heeded.lost;
-                    answer = StepAnswer::Accepted(Accepted {
-                        arrival: self.arrival,
-                        channel: f.channel,
-                        lost: on,
-                        master: lost,
-                        packets: heeded.packets,
-                        headers: heeded.headers,
-                    });
-                }
-            }
+        if let Some(refusal) = self.barred(octets, lengths, firsts) {
+            return Stepped {
+                session: self,
+                answer: Err(refusal),
+            };
         }
+        self.arrival += 1;
+        let f = match Frame::read(self.t, frame) {
+            Ok(f) => f,
+            Err(reason) => {
+                return Stepped {
+                    session: self,
+                    answer: Err(Refusal::of(reason)),
+                };
+            }
+        };
+        let i = f.channel as usize;
+        let head = Head::of(self.arrival, f);
+        let heeded = self.channels[i].heed(head, f.data(frame), octets, lengths, firsts);
+        let master = f.master.lost(self.heard, self.master);
+        self.channels[i] = heeded.channel;
+        self.master = f.master;
+        self.heard = true;
         Stepped {
             session: self,
-            answer,
+            answer: Ok(Accepted {
+                arrival: self.arrival,
+                channel: f.channel,
+                lost: heeded.lost,
+                master,
+                packets: heeded.packets,
+                headers: heeded.headers,
+            }),
         }
     }
 
     // The session after a stretch that was refused before any frame could be read: the first of 1, 4, 3, else its own refusal,
     // which uses up an arrival number. The channels stay.
-    pub fn turn_away(mut self, own: u16, octets: &[u8], lengths: &[u16], firsts: &[u32]) -> Stepped
+    pub fn turn_away(self, own: u16, octets: &[u8], lengths: &[u16], firsts: &[u32]) -> Stepped
         ensures { TurnsAway self own
             (lent octets.now lengths.now firsts.now) result
             (lent octets.now lengths.now firsts.now) }
     {
-        let answer;
-        let bar = self.barred(octets, lengths, firsts);
-        if bar != 0 {
-            answer = StepAnswer::Refused(Refusal::plain(bar));
-        } else {
-            self.arrival = self.arrival + 1;
-            answer = StepAnswer::Refused(Refusal::plain(own));
+        if let Some(refusal) = self.barred(octets, lengths, firsts) {
+            return Stepped {
+                session: self,
+                answer: Err(refusal),
+            };
         }
         Stepped {
-            session: self,
-            answer,
+            session: Session {
+                arrival: self.arrival + 1,
+                ..self
+            },
+            answer: Err(Refusal::plain(own)),
         }
     }
 }

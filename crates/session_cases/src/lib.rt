@@ -1,10 +1,10 @@
 // Opening a session, giving one as it stands, and steps. Each prints the session whole, and answers it.
 #![tactic(auto)]
 
-use counts::{ChannelCount, Loss, MasterCount};
+use counts::{ChannelCount, MasterCount};
 use format_cases::frames;
 use records::{input, places, text};
-use session::{Channel, OpenAnswer, Session, StepAnswer, Stepped};
+use session::{Channel, Session, Stepped};
 
 // Whether a channel is fresh, its whole array too.
 fn fresh(c: Channel) -> bool {
@@ -44,21 +44,17 @@ fn print(s: Session) {
             s.master.0 as u64,
         ],
     );
-    let channels = s.channels;
-    let mut i = 0;
-    while i < 8 {
-        channel(i, channels[i]);
-        i += 1;
+    for (i, &c) in s.channels.iter().enumerate() {
+        channel(i, c);
     }
 }
 
 pub fn open(c: &[u8]) -> Session {
     let opened = Session::open(input::octet(c, places::T), input::four(c, places::ARRIVAL));
     let s = opened.session;
-    let answer = opened.answer;
-    match answer {
-        OpenAnswer::Accepted => text::say(b"accepted"),
-        OpenAnswer::Refused(n) => text::field(b"refusal ", n as u64),
+    match opened.answer {
+        Ok(()) => text::say(b"accepted"),
+        Err(reason) => text::field(b"refusal ", reason.number() as u64),
     }
     print(s);
     s
@@ -84,8 +80,7 @@ pub fn given(c: &[u8]) -> Session {
     let mut s = opened.session;
     s.t = input::octet(c, places::T);
     s.arrival = input::four(c, places::ARRIVAL);
-    let master = MasterCount(input::octet(c, places::MASTER));
-    s.master = master;
+    s.master = MasterCount(input::octet(c, places::MASTER));
     s.heard = input::octet(c, places::HEARD) == 1;
     let i = input::four(c, places::CHANNEL) as usize;
     if i < 8 {
@@ -98,13 +93,13 @@ pub fn given(c: &[u8]) -> Session {
 }
 
 // Prints how many frames were lost.
-fn loss(name: &[u8], l: Loss) {
+fn loss(name: &[u8], l: Option<u8>) {
     match l {
-        Loss::Unknown => {
+        None => {
             text::say(name);
             text::say(b"unknown");
         }
-        Loss::Known(n) => text::field(name, n as u64),
+        Some(n) => text::field(name, n as u64),
     }
 }
 
@@ -131,22 +126,19 @@ pub fn step(
     firsts: &mut [u32],
 ) -> Session {
     let stepped = offer(c, s, octets, lengths, firsts);
-    let answer = stepped.answer;
     let next = stepped.session;
-    match answer {
-        StepAnswer::Accepted(a) => {
+    match stepped.answer {
+        Ok(a) => {
             text::tell(
                 b"accepted arrival # channel #",
                 &[a.arrival as u64, a.channel as u64],
             );
-            let lost = a.lost;
-            let master = a.master;
-            loss(b" lost ", lost);
-            loss(b" master ", master);
+            loss(b" lost ", a.lost);
+            loss(b" master ", a.master);
             text::field(b" packets ", a.packets as u64);
             text::field(b" headers ", a.headers as u64);
         }
-        StepAnswer::Refused(r) => frames::refused(r),
+        Err(r) => frames::refused(r),
     }
     text::words(b" lengths", lengths, 61166);
     text::fours(b" firsts", firsts, 61166);

@@ -1,4 +1,5 @@
 -- A scan of a source: what it makes of the octets at hand.
+use Rattle.answer.specs.Told.{number_of}
 use Rattle.std.specs.Prelude.{ℕ, zero, suc, ◌+◌, ◌-◌, ◌≤◌, ◌<◌, ◌≡◌, List, [], ◌++◌, true, false, length, take, drop}
 use Rattle.stretch.specs.Stretch.{found, unread}
 use Rattle.recording.specs.Sections.{least_window}
@@ -42,7 +43,7 @@ section_scanned r = record { source = source.Recording r.reader; used = r.used; 
 abbrev pub stretch_taken : Stretched → Taken
 stretch_taken stretched.Nothing = taken.Nothing
 stretch_taken (stretched.Frame n) = taken.Kept n
-stretch_taken (stretched.Refused n) = taken.Refused n
+stretch_taken (stretched.Refused r) = taken.Refused (number_of r)
 
 -- What a stream's reader found in so many octets: with none at hand one is missing.
 unfoldable pub stream_taken : ℕ → Stretched → Taken

@@ -76,35 +76,26 @@ impl Source {
         match self {
             Source::Recording(before) => {
                 let scanned = before.scan(window);
-                let reader = scanned.reader;
-                let section = scanned.taken;
-                let taken = told(section);
                 Scanned {
-                    source: Source::Recording(reader),
+                    source: Source::Recording(scanned.reader),
                     used: scanned.used,
-                    taken,
+                    taken: told(scanned.taken),
                 }
             }
             Source::Kiss(before) => {
                 let scanned = before.scan(window, kept);
-                let reader = scanned.reader;
-                let found = scanned.found;
-                let taken = stream_told(window.len(), found);
                 Scanned {
-                    source: Source::Kiss(reader),
+                    source: Source::Kiss(scanned.reader),
                     used: scanned.used,
-                    taken,
+                    taken: stream_told(window.len(), scanned.found),
                 }
             }
             Source::Bits(before) => {
                 let scanned = before.scan(window, kept);
-                let reader = scanned.reader;
-                let found = scanned.found;
-                let taken = stream_told(window.len(), found);
                 Scanned {
-                    source: Source::Bits(reader),
+                    source: Source::Bits(scanned.reader),
                     used: scanned.used,
-                    taken,
+                    taken: stream_told(window.len(), scanned.found),
                 }
             }
         }
@@ -137,7 +128,7 @@ fn stream_told(size: usize, found: Found) -> Taken
     match found {
         Found::Nothing => Taken::Nothing,
         Found::Frame(n) => Taken::Kept(n),
-        Found::Refused(n) => Taken::Refused(n),
+        Found::Refused(reason) => Taken::Refused(reason.number()),
     }
 }
 

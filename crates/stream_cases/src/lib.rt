@@ -1,8 +1,8 @@
 // The readers of streams and their writers.
 #![tactic(auto)]
 
+use answer::Refusal;
 use format_cases::{frames, packets};
-use kiss_writer::Exported;
 use records::{input, places, text};
 use stretch::{Found, KEPT};
 
@@ -11,17 +11,13 @@ fn told(found: Found, kept: &[u8; KEPT]) {
     match found {
         Found::Nothing => {}
         Found::Frame(n) => text::hex(b" frame ", octets::part(kept, 0, n)),
-        Found::Refused(n) => text::field(b" refusal ", n as u64),
+        Found::Refused(reason) => text::field(b" refusal ", reason.number() as u64),
     }
 }
 
 // The next octets of a stream, from index at on, n at most.
 fn piece(stream: &[u8], at: usize, n: usize) -> &[u8] {
-    let left = std::num::wrapping_sub_usize(stream.len(), at);
-    if left < n {
-        return octets::part(stream, at, left);
-    }
-    octets::part(stream, at, n)
+    octets::part(stream, at, n.min(stream.len().wrapping_sub(at)))
 }
 
 // Scans the case's KISS stream, so many octets at a time, and prints what was found.
@@ -31,16 +27,12 @@ pub fn kiss_import(c: &[u8]) {
     let mut kept = [0u8; KEPT];
     let mut reader = kiss::Reader::new();
     let mut at = 0;
-    let mut turns = stream.len();
     text::say(b"accepted");
-    while 0 < turns {
+    for _ in 0..stream.len() {
         let scanned = reader.scan(piece(stream, at, n), &mut kept);
-        let found = scanned.found;
-        told(found, &kept);
-        let next = scanned.reader;
-        reader = next;
-        at = std::num::wrapping_add_usize(at, scanned.used);
-        turns -= 1;
+        told(scanned.found, &kept);
+        reader = scanned.reader;
+        at = at.wrapping_add(scanned.used);
     }
 }
 
@@ -51,16 +43,12 @@ pub fn bits_reader(c: &[u8]) {
     let mut kept = [0u8; KEPT];
     let mut reader = rawbits::Reader::new();
     let mut at = 0;
-    let mut turns = stream.len();
     text::say(b"accepted");
-    while 0 < turns {
+    for _ in 0..stream.len() {
         let scanned = reader.scan(piece(stream, at, n), &mut kept);
-        let found = scanned.found;
-        told(found, &kept);
-        let next = scanned.reader;
-        reader = next;
-        at = std::num::wrapping_add_usize(at, scanned.used);
-        turns -= 1;
+        told(scanned.found, &kept);
+        reader = scanned.reader;
+        at = at.wrapping_add(scanned.used);
     }
 }
 
@@ -70,8 +58,8 @@ pub fn kiss_export(c: &[u8], out: &mut [u8]) {
     let n = input::room(c, places::LENGTHS, 65);
     let t = input::octet(c, places::T);
     match kiss_writer::write(t, input::block(c, places::INPUT), &lengths[..n], out) {
-        Exported::Length(length) => text::field(b"accepted length ", length as u64),
-        Exported::Refused(r) => frames::refused(r),
+        Ok(length) => text::field(b"accepted length ", length as u64),
+        Err(reason) => frames::refused(Refusal::of(reason)),
     }
     text::lent(b" output ", out, 238);
 }

@@ -1,5 +1,6 @@
 -- What a stream of octets holds between two marks.
 use Rattle.std.specs.Prelude.{ℕ, ◌≤◌, List, [], ◌∷◌, length, take}
+use Rattle.answer.specs.Told.{number_of}
 use Rattle.stretch.specs.declared.Found.{Found}
 use Rattle.stretch.specs.declared.Found.TheVariants.{Nothing, Frame, Refused}
 
@@ -20,7 +21,7 @@ clipped (unread n) = unread n
 abbrev pub told : Found → List ℕ → List Stretch
 told Nothing kept = []
 told (Frame n) kept = found (take n kept) ∷ []
-told (Refused n) kept = unread n ∷ []
+told (Refused r) kept = unread (number_of r) ∷ []
 
 -- A frame that is told is among them.
 abbrev pub Fits : Found → List ℕ → Type 0

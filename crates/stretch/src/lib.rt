@@ -1,6 +1,8 @@
 // What readers of streams find between two marks.
 #![tactic(auto)]
 
+use answer::Reason;
+
 // How many octets of a frame a reader keeps: the longest frame and one more.
 pub const KEPT: usize = 275;
 
@@ -11,6 +13,6 @@ pub enum Found {
     Nothing,
     // A frame: so many of the octets kept, from the first on.
     Frame(usize),
-    // A stretch that is refused with this number before any frame can be read.
-    Refused(u16),
+    // A stretch that is refused before any frame can be read.
+    Refused(Reason),
 }

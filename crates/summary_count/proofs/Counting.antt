@@ -1,4 +1,5 @@
 -- Laws of counters that rise one after another, and of a key's place.
+use Rattle.std.specs.Prelude.{Some, None}
 use Prim.Native.Nat.{ℕ, suc, ◌+◌, ◌≤◌, ◌<◌}
 use mathlib.Core.Path.{◌≡◌, refl, sym, ap, ◌∙◌}
 use mathlib.Core.Bool.{Bool, true, false, ◌||◌, ◌&&◌}
@@ -10,15 +11,14 @@ use lib.Seq.{drop-cons}
 use lib.Dec.{ltb, eqb}
 use borrow.Author.Tests.{lt-ltb, le-ltb}
 use Rattle.octets.proofs.Choices.{picked, passed}
-use Rattle.counts.specs.declared.Loss.{Loss}
-use Rattle.counts.specs.declared.Loss.TheVariants.{Unknown, Known}
+use Rattle.counts.specs.Loss.{Loss}
 use Rattle.summary_count.specs.Count.{added, loss_added, accepted, of_number, place_of, placed, Listed, tally, packet_counted}
 
-pub loss-unknown : (counts : List ℕ) (known unknown : ℕ) {l : Loss} {x : List ℕ} → l ≡ Unknown → x ≡ added counts unknown 1
+pub loss-unknown : (counts : List ℕ) (known unknown : ℕ) {l : Loss} {x : List ℕ} → l ≡ None → x ≡ added counts unknown 1
     → x ≡ loss_added counts known unknown l
 loss-unknown counts known unknown e f = f ∙ ap (loss_added counts known unknown) (sym e)
 
-pub loss-known : (counts : List ℕ) (known unknown : ℕ) {l : Loss} {n : ℕ} {x : List ℕ} → l ≡ Known n → x ≡ added counts known n
+pub loss-known : (counts : List ℕ) (known unknown : ℕ) {l : Loss} {n : ℕ} {x : List ℕ} → l ≡ Some n → x ≡ added counts known n
     → x ≡ loss_added counts known unknown l
 loss-known counts known unknown e f = f ∙ ap (loss_added counts known unknown) (sym e)
 
@@ -124,6 +124,3 @@ module _ (key : ℕ) (counts keys many : List ℕ) {a keys' many' : List ℕ} {r
 pub ruleset counting = (loss-unknown, loss-known, frame-counted, number-counted)
 
 pub ruleset placing = (key-listed, no_key, no_count, packet-placed, packet_unplaced)
-
--- a sum that stays below the largest number, or would pass it
-pub ruleset cases = (picked, passed, lt-ltb, le-ltb)

@@ -1,5 +1,6 @@
 -- Laws of an image's place in the list of images, and of what a report brings.
-use Prim.Native.Nat.{ℕ, zero, suc, ◌+◌, ◌-◌, ◌*◌, ◌≤◌, ◌<◌}
+use Rattle.std.specs.Prelude.{Ok, Err}
+use Prim.Native.Nat.{ℕ, suc, ◌+◌, ◌-◌, ◌*◌, ◌≤◌, ◌<◌}
 use mathlib.Core.Path.{◌≡◌, refl, sym, ap, ◌∙◌}
 use mathlib.Core.Bool.{true, false, ◌||◌}
 use mathlib.Core.List.{List, [], ◌∷◌}
@@ -13,21 +14,15 @@ use Rattle.octets.specs.Numbers.{at}
 use Rattle.octets.specs.Pick.{pick}
 use Rattle.octets.proofs.Choices.{picked, passed}
 use Rattle.answer.specs.Told.{Told}
+use Rattle.answer.specs.declared.Reason.{Reason}
 use Rattle.report.specs.Report.{told}
 use Rattle.report.specs.declared.Report.{Report}
-use Rattle.report.specs.declared.ReportRead.{ReportRead}
-use Rattle.report.specs.declared.ReportRead.TheVariants as read
+use Rattle.report.specs.Answers.{ReportRead}
 use Rattle.report.specs.declared.Content.{Content}
 use Rattle.report.specs.declared.Content.TheVariants as content
 use Rattle.report.specs.declared.Line.{Line}
 use Rattle.report.specs.contracts.Content.{the_type}
 use Rattle.summary_count.specs.Count.{added, place_from, image_place, line_noted, content_noted, report_noted}
-
--- past the end of a list
-pub past_end : (s : List ℕ) (i : ℕ) → length s ≤ i → 0 ≡ at s i
-past_end [] i h = refl
-past_end (x ∷ s) zero h = absurd (omega arith)
-past_end (x ∷ s) (suc i) h = past_end s i (omega arith)
 
 -- a place looked for from place i on
 module _ (key : ℕ) (counts : List ℕ) where
@@ -89,12 +84,12 @@ not_noted counts (content.Line c) k = absurd (miss (0 ∷ 1 ∷ 2 ∷ 3 ∷ []) 
 
 -- by what a report's reader gave
 module _ (counts : List ℕ) {x : ReportRead} {t : Told Report} (e : told x ≡ t) where
-  pub report-refused : {n : ℕ} → x ≡ read.Refused n → counts ≡ report_noted t counts
+  pub report-refused : {n : Reason} → x ≡ Err n → counts ≡ report_noted t counts
   unfolding pick
   report-refused h =
       ap (λ (y : ReportRead). report_noted (told y) counts) (sym h) ∙ ap (λ (y : Told Report). report_noted y counts) e
 
-  module _ {r : Report} (h : x ≡ read.Report r) where
+  module _ {r : Report} (h : x ≡ Ok r) where
     by_content_lem : content_noted r.content counts ≡ report_noted t counts
     unfolding pick
     by_content_lem =

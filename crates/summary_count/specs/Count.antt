@@ -1,11 +1,10 @@
 -- What a session's answers and the packets handed out with them add up to, in lent lists: counters by what they count, packets by a key
 -- with how many there were of it, and of each APID the last source sequence count.
-use Rattle.std.specs.Prelude.{ℕ, zero, suc, ◌+◌, ◌-◌, ◌*◌, ◌≡◌, Bool, ◌||◌, ◌&&◌, List, [], ◌∷◌, length, set, take, eqb, ltb}
+use Rattle.std.specs.Prelude.{ℕ, zero, suc, ◌+◌, ◌-◌, ◌*◌, ◌≡◌, Bool, ◌||◌, ◌&&◌, List, [], ◌∷◌, length, set, take, eqb, ltb, Ok, Err, Some, None}
 use Rattle.octets.specs.Numbers.{at}
 use Rattle.octets.specs.Pick.{pick}
 use Rattle.answer.specs.Told.{Told}
-use Rattle.counts.specs.declared.Loss.{Loss}
-use Rattle.counts.specs.declared.Loss.TheVariants.{Unknown, Known}
+use Rattle.counts.specs.Loss.{Loss}
 use Rattle.packet.specs.Packet.{read_packet}
 use Rattle.packet.specs.declared.Packet.{Packet}
 use Rattle.report.specs.Table.{image_line}
@@ -18,8 +17,7 @@ use Rattle.sequence.specs.Sequence.{Between, Outcome, outcome}
 use Rattle.sequence.specs.Sequence as between
 use Rattle.rules.specs.Packets.{cut}
 use Rattle.session.specs.declared.Accepted.{Accepted}
-use Rattle.session.specs.declared.StepAnswer.{StepAnswer}
-use Rattle.session.specs.declared.StepAnswer.TheVariants as answer
+use Rattle.session.specs.Answers.{StepAnswer}
 use Rattle.summary_count.specs.Counters as place
 
 -- A counter has 64 bits, and stays at its largest number.
@@ -35,8 +33,8 @@ added counts i n = set counts i (saturated (at counts i) n)
 
 -- A known loss adds to the one counter, an unknown one to the other.
 abbrev pub loss_added : List ℕ → ℕ → ℕ → Loss → List ℕ
-loss_added counts known unknown Unknown = added counts unknown 1
-loss_added counts known unknown (Known n) = added counts known n
+loss_added counts known unknown None = added counts unknown 1
+loss_added counts known unknown (Some n) = added counts known n
 
 -- An accepted frame: over all, by channel, its loss there, its loss over all.
 unfoldable pub accepted : List ℕ → ℕ → Loss → Loss → List ℕ
@@ -197,5 +195,5 @@ refused_counted n g = with_counts g (of_number g.tally.counts place.refused_fram
 -- A session's answer: an accepted frame, and the packets handed out with it, which stand end to end at the start of octets, by their
 -- lengths; or a refusal.
 abbrev pub answer_counted : StepAnswer → List ℕ → List ℕ → Ledger → Ledger
-answer_counted (answer.Accepted a) octets lengths g = all_counted (cut octets (take a.packets lengths)) (accepted_counted a g)
-answer_counted (answer.Refused r) octets lengths g = refused_counted r.number g
+answer_counted (Ok a) octets lengths g = all_counted (cut octets (take a.packets lengths)) (accepted_counted a g)
+answer_counted (Err r) octets lengths g = refused_counted r.number g

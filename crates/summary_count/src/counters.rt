@@ -3,8 +3,6 @@ ghost use Rattle.std.specs.Prelude.{◌≡◌, ◌≤◌, set};
 ghost use Rattle.summary_count.specs.Count.{saturated, added, loss_added, accepted, of_number, place_of, key_of};
 ghost use Rattle.summary_count.specs.Count.{Listed, tally, packet_counted, judged};
 
-use counts::Loss;
-
 // Where the counters stand: image lines of images that have no place in the list of images, and whether the recording is bad, 0 or 1.
 pub const UNPLACED: usize = 0;
 
@@ -59,17 +57,11 @@ pub const IMAGE_LINES: usize = 137216;
 // How many counters there are.
 pub const COUNTERS: usize = 260096;
 
-// The largest number of a counter.
-const LARGEST: u64 = 18446744073709551615;
-
 // The sum of two numbers, or the largest number.
 pub fn sum(x: u64, n: u64) -> u64
     ensures { result ≡ saturated x n }
 {
-    if LARGEST - x < n {
-        return LARGEST;
-    }
-    x + n
+    x.saturating_add(n)
 }
 
 // Adds n to the counter at index i.
@@ -91,20 +83,20 @@ pub(crate) fn leave(counts: &mut [u64], i: usize, n: u64)
 }
 
 // Adds a loss: what is known to the one counter, or one to the other.
-fn add_loss(counts: &mut [u64], known: usize, unknown: usize, lost: Loss)
+fn add_loss(counts: &mut [u64], known: usize, unknown: usize, lost: Option<u8>)
     ensures { counts.new ≡ loss_added counts.old known unknown lost }
 {
     match lost {
-        Loss::Unknown => add(counts, unknown, 1),
-        Loss::Known(n) => add(counts, known, n as u64),
+        None => add(counts, unknown, 1),
+        Some(n) => add(counts, known, u64::from(n)),
     }
 }
 
 // Counts an accepted frame.
-pub(crate) fn frame(counts: &mut [u64], channel: u8, lost: Loss, master: Loss)
+pub(crate) fn frame(counts: &mut [u64], channel: u8, lost: Option<u8>, master: Option<u8>)
     ensures { counts.new ≡ accepted counts.old channel lost master }
 {
-    let i = octets::wide(channel);
+    let i = usize::from(channel);
     add(counts, ACCEPTED, 1);
     add(counts, CHANNEL_FRAMES + i, 1);
     add_loss(counts, CHANNEL_LOST + i, CHANNEL_UNKNOWN + i, lost);
@@ -117,31 +109,29 @@ pub(crate) fn refusal(counts: &mut [u64], all: usize, each: usize, number: u16)
     ensures { counts.new ≡ of_number counts.old all each number }
 {
     add(counts, all, 1);
-    add(counts, each + number as usize, 1);
+    add(counts, each + usize::from(number), 1);
 }
 
 // The key of an APID, a type and a subtype: it rises with them in this order.
 pub(crate) fn key(apid: u16, service: u8, subtype: u8) -> u32
     ensures { result ≡ key_of apid service subtype }
 {
-    ((apid as u32) * 256 + service as u32) * 256 + subtype as u32
+    (u32::from(apid) * 256 + u32::from(service)) * 256 + u32::from(subtype)
 }
 
 // The index of a key in the list, or else of the first free place, whose count is 0; the end of a list if there is none.
 fn place(keys: &[u32], many: &[u64], key: u32) -> usize
     ensures { result ≡ place_of key keys.now many.now }
 {
-    let mut i = 0;
-    while i < keys.len() {
+    for (i, &held) in keys.iter().enumerate() {
         if many.len() <= i {
             return i;
         }
-        if (many[i] == 0) | (keys[i] == key) {
+        if (many[i] == 0) | (held == key) {
             return i;
         }
-        i += 1;
     }
-    i
+    keys.len()
 }
 
 // Counts one more of a key, and answers whether it has a place.

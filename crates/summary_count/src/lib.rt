@@ -4,7 +4,8 @@
 ghost use Rattle.std.specs.Prelude.{◌≡◌};
 ghost use Rattle.summary_count.specs.Count.{ledger, answer_counted};
 
-use session::StepAnswer;
+use answer::Refusal;
+use session::Accepted;
 
 pub mod counters;
 mod images;
@@ -13,7 +14,7 @@ mod packets;
 // Counts an answer: a refusal, or an accepted frame and the packets handed out with it, which stand end to end at the start of octets, by
 // their lengths. Nothing else changes in what is lent.
 pub fn answered(
-    answer: StepAnswer,
+    answer: Result<Accepted, Refusal>,
     octets: &[u8],
     lengths: &[u16],
     counts: &mut [u64],
@@ -26,14 +27,10 @@ pub fn answered(
         (ledger counts.old keys.old many.old last.old) }
 {
     match answer {
-        StepAnswer::Accepted(a) => {
-            let lost = a.lost;
-            let master = a.master;
-            counters::frame(counts, a.channel, lost, master);
+        Ok(a) => {
+            counters::frame(counts, a.channel, a.lost, a.master);
             packets::all(octets, lengths, a.packets, counts, keys, many, last);
         }
-        StepAnswer::Refused(r) => {
-            counters::refusal(counts, counters::REFUSED, counters::REFUSED_WITH, r.number)
-        }
+        Err(r) => { counters::refusal(counts, counters::REFUSED, counters::REFUSED_WITH, r.number) }
     }
 }

@@ -5,7 +5,7 @@ ghost use Rattle.summary_count.specs.Count.{ledger, sequel, sequel_of, read_coun
 
 use crate::{counters, images};
 use counts::SequenceCount;
-use packet::{Packet, PacketRead};
+use packet::Packet;
 use sequence::Gap;
 
 // The type and the subtype of an image line.
@@ -18,10 +18,19 @@ fn gap(counts: &mut [u64], last: &mut [u16], apid: u16, count: SequenceCount)
     ensures { sequel counts.new last.new ≡ sequel_of apid count.0
         (sequel counts.old last.old) }
 {
-    match sequence::missing(apid, count, last) {
-        Gap::Missing(n) => counters::add(counts, counters::APID_MISSING + apid as usize, n as u64),
-        Gap::Restart => counters::add(counts, counters::APID_RESTARTED + apid as usize, 1),
-        Gap::Unknown | Gap::Refused(_) => {}
+    let Ok(gap) = sequence::missing(apid, count, last) else {
+        return;
+    };
+    match gap {
+        Gap::Missing(n) => {
+            counters::add(
+                counts,
+                counters::APID_MISSING + usize::from(apid),
+                u64::from(n),
+            )
+        }
+        Gap::Restart => counters::add(counts, counters::APID_RESTARTED + usize::from(apid), 1),
+        Gap::Unknown => {}
     }
 }
 
@@ -37,10 +46,9 @@ fn read(
     ensures { ledger counts.new keys.new many.new last.new
         ≡ read_counted p packet.now (ledger counts.old keys.old many.old last.old) }
 {
-    let count = p.sequence;
     let key = counters::key(p.apid, p.service, p.subtype);
     counters::packet(counts, keys, many, key);
-    gap(counts, last, p.apid, count);
+    gap(counts, last, p.apid, p.sequence);
     if (p.service == SERVICE) & (p.subtype == SUBTYPE) {
         images::line(counts, packet);
     }
@@ -52,8 +60,10 @@ fn one(packet: &[u8], counts: &mut [u64], keys: &mut [u32], many: &mut [u64], la
         ≡ handed_counted packet.now (ledger counts.old keys.old many.old last.old) }
 {
     match Packet::read(packet) {
-        PacketRead::Packet(p) => read(p, packet, counts, keys, many, last),
-        PacketRead::Refused(n) => counters::refusal(counts, counters::AWAY, counters::AWAY_WITH, n),
+        Ok(p) => read(p, packet, counts, keys, many, last),
+        Err(reason) => {
+            counters::refusal(counts, counters::AWAY, counters::AWAY_WITH, reason.number())
+        }
     }
 }
 
@@ -71,16 +81,11 @@ pub(crate) fn all(
         ≡ all_counted (cut octets.now (take packets lengths.now))
         (ledger counts.old keys.old many.old last.old) }
 {
-    let n = octets::wide(packets);
     let mut from = 0;
-    let mut i = 0;
-    while i < n {
-        if lengths.len() <= i {
-            return;
-        }
-        let to = from + lengths[i] as usize;
+    let listed = &lengths[..lengths.len().min(usize::from(packets))];
+    for &n in listed {
+        let to = from + usize::from(n);
         one(window::hand(octets, from, to), counts, keys, many, last);
         from = to;
-        i += 1;
     }
 }

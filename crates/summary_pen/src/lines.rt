@@ -20,15 +20,13 @@ fn parts(n: u64, rest: u64) -> u64
     let others = all - n;
     let mut full: u64 = 0;
     let mut over: u64 = 0;
-    let mut i: u64 = 0;
-    while i < 1000 {
+    for turn in 0..1000u32 {
         if over < others {
             over += n;
         } else {
             over -= others;
             full += 1;
         }
-        i += 1;
     }
     full
 }

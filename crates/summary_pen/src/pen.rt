@@ -33,10 +33,8 @@ pub(crate) fn say(out: &mut [u8], start: Pen, words: &[u8]) -> Pen
     ensures { Says words.now (page out.old start) (page out.new result) }
 {
     let mut pen = start;
-    let mut i = 0;
-    while i < words.len() {
-        pen = octet(out, pen, words[i]);
-        i += 1;
+    for &c in words {
+        pen = octet(out, pen, c);
     }
     pen
 }

@@ -1,4 +1,5 @@
 -- What a turn counts, and what the whole comes to from there on.
+use Rattle.std.specs.Prelude.{Ok, Err}
 use Prim.Native.Nat.{ℕ, ◌-◌}
 use mathlib.Core.Path.{◌≡◌, refl, sym, ap, ◌∙◌, subst}
 use mathlib.Core.List.{List, [], ◌∷◌, ◌++◌, map, append_assoc, append-nil}
@@ -16,7 +17,7 @@ use Rattle.stretch.specs.Stretch.{Stretch, found, unread}
 use Rattle.rules.specs.Channel.{Handed}
 use Rattle.rules.specs.Packets.{bare, joined, cut}
 use Rattle.source.specs.Found.{Item, offers, Found, found_in, cut_at}
-use Rattle.source.specs.Scan.{scanned, kept_by, tells, Over, Finds}
+use Rattle.source.specs.Scan.{scanned, kept_by, tells, Finds}
 use Rattle.source.specs.Scan.{Told as ToldBy}
 use Rattle.source.proofs.Scanning.{scans_find}
 use Rattle.source.specs.declared.Scanned.{Scanned}
@@ -27,8 +28,7 @@ use Rattle.session.specs.Lent.{Lent, Enough}
 use Rattle.session.specs.Step.{Outcome}
 use Rattle.session.specs.Statements.{offered}
 use Rattle.session.specs.declared.Session.{Session}
-use Rattle.session.specs.declared.StepAnswer.{StepAnswer}
-use Rattle.session.specs.declared.StepAnswer.TheVariants as answer
+use Rattle.session.specs.Answers.{StepAnswer}
 use Rattle.session.proofs.Few.{Few, offer-few}
 use Rattle.receiver.specs.Receive.{Tells, missing, bad, over, opened, nothing, answered, told_of, heard, Receives}
 use Rattle.receiver.specs.Receive.{received as receipt}
@@ -103,9 +103,9 @@ module _ (ps : List Handed) (octets lengths : List ℕ) (g : Ledger) where
   answer-told : (a : StepAnswer) → Few_told (told_of (event.Answered a)) ps
       → answer_counted a octets' lengths' g ≡ with_tells (told_of (event.Answered a)) ps g
   unfolding pick
-  answer-told (answer.Accepted a) f =
+  answer-told (Ok a) f =
       ap (λ (x : List (List ℕ)). all_counted x (accepted_counted a g)) (laid-packets ps octets lengths a.packets f)
-  answer-told (answer.Refused r) f =
+  answer-told (Err r) f =
       ap (λ (x : List Handed). all_counted (bare x) (refused_counted r.number g)) (no_packets ps f)
 
   pull_told : (e : Event) (s : Source) (failed : Bool) (n : ℕ) → Few_told (told_of e) ps

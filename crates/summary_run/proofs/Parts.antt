@@ -9,7 +9,6 @@ use lib.Dec.{eqb, ltb}
 use borrow.Author.Tests.{ltb-true, eq-eqb}
 use lib.ListN.{length, take, drop, take-append-drop}
 use lib.Seq.{take_all, take-append_seam, take-add}
-use Rattle.octets.specs.Parts.{written}
 use Rattle.octets.specs.Pick.{pick}
 use Rattle.window.specs.Turns.{Turns, none, more, Made, most}
 use Rattle.window.specs.Window.{hand, unwritten}

@@ -1,20 +1,14 @@
--- A counter by its index, and how many counters are not 0, one after another.
+-- How many counters are not 0, one after another.
 use Prim.Native.Nat.{ℕ, zero, suc, ◌+◌, ◌-◌, ◌≤◌, ◌<◌}
 use native.Mathlib.Omega.{arith}
 use mathlib.Core.Path.{◌≡◌, refl, sym, ap, ◌∙◌}
-use mathlib.Core.List.{List, [], ◌∷◌}
+use mathlib.Core.List.{List}
 use lib.Dec.{eqb}
-use lib.ListN.{length}
 use borrow.Author.Tests.{eq-eqb, ne_eqb}
 use Rattle.octets.specs.Numbers.{at}
 use Rattle.octets.specs.Pick.{pick}
 use Rattle.octets.proofs.Choices.{picked, passed}
 use Rattle.summary_text.specs.Text.{marked}
-
-pub past_end : (s : List ℕ) (i : ℕ) → length s ≤ i → 0 ≡ at s i
-past_end [] i h = refl
-past_end (x ∷ s) zero h = absurd (omega arith)
-past_end (x ∷ s) (suc i) h = past_end s i (omega arith)
 
 -- of so many counters from an index on, i were looked at
 pub record Marked (many from : ℕ) (counts : List ℕ) (i n : ℕ) : Type 0 where

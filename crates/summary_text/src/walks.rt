@@ -17,10 +17,7 @@ const LINES: usize = 120;
 pub(crate) fn of(counts: &[u64], i: usize) -> u64
     ensures { result ≡ at counts.now i }
 {
-    if i < counts.len() {
-        return counts[i];
-    }
-    0
+    counts.get(i).copied().unwrap_or(0)
 }
 
 // How many there were of each refusal, by their rising numbers: their counters stand from an index on.
@@ -37,11 +34,9 @@ fn refusals(
         (page out.old start) (page out.new result) }
 {
     let mut pen = start;
-    let mut i = 0;
-    while i < counters::NUMBERS {
+    for i in 0..counters::NUMBERS {
         let n = of(counts, from + i);
         pen = forms::refusal(out, pen, words, others, i as u64, n);
-        i += 1;
     }
     pen
 }
@@ -101,13 +96,11 @@ pub(crate) fn channels(out: &mut [u8], start: Pen, csv: bool, counts: &[u64]) ->
     ensures { Says (channel_texts (form csv) counts.now) (page out.old start) (page out.new result) }
 {
     let mut pen = start;
-    let mut i = 0;
-    while i < counters::CHANNELS {
+    for i in 0..counters::CHANNELS {
         let n = of(counts, counters::CHANNEL_FRAMES + i);
         let lost = of(counts, counters::CHANNEL_LOST + i);
         let unknown = of(counts, counters::CHANNEL_UNKNOWN + i);
         pen = forms::channel(out, pen, csv, i as u64, n, lost, unknown);
-        i += 1;
     }
     pen
 }
@@ -117,12 +110,10 @@ pub(crate) fn apids(out: &mut [u8], start: Pen, csv: bool, counts: &[u64]) -> Pe
     ensures { Says (apid_texts (form csv) counts.now) (page out.old start) (page out.new result) }
 {
     let mut pen = start;
-    let mut i = 0;
-    while i < counters::APIDS {
+    for i in 0..counters::APIDS {
         let missing = of(counts, counters::APID_MISSING + i);
         let restarted = of(counts, counters::APID_RESTARTED + i);
         pen = forms::apid(out, pen, csv, i as u64, missing, restarted);
-        i += 1;
     }
     pen
 }
@@ -133,13 +124,11 @@ fn received(counts: &[u64], from: usize) -> u64
     ensures { result ≡ marked 120 from counts.now }
 {
     let mut lines: u64 = 0;
-    let mut i = 0;
-    while i < LINES {
+    for i in 0..LINES {
         let n = of(counts, from + i);
         if n != 0 {
             lines += 1;
         }
-        i += 1;
     }
     lines
 }
@@ -149,12 +138,10 @@ pub(crate) fn images(out: &mut [u8], start: Pen, csv: bool, counts: &[u64]) -> P
     ensures { Says (image_texts (form csv) counts.now) (page out.old start) (page out.new result) }
 {
     let mut pen = start;
-    let mut i = 0;
-    while i < counters::IMAGES {
+    for i in 0..counters::IMAGES {
         let key = of(counts, counters::IMAGE_KEYS + i);
         let lines = received(counts, counters::IMAGE_LINES + i * LINES);
         pen = forms::image(out, pen, csv, key, lines);
-        i += 1;
     }
     pen
 }

@@ -4,6 +4,7 @@ pub mod Forming
 pub mod Reasons
 pub mod Looking
 pub mod Keeping
+pub mod Told
 pub mod Telling
 pub mod Verdicts
 pub mod Rights

@@ -2,16 +2,24 @@
 use Prim.Native.Nat.{ℕ, zero, suc, ◌+◌, ◌-◌, ◌≤◌, ◌<◌}
 use native.Mathlib.Omega.{arith}
 use mathlib.Core.Path.{◌≡◌, refl, sym, ap, ◌∙◌}
-use mathlib.Core.Bool.{Bool, false}
+use mathlib.Core.Bool.{Bool, true, false}
 use mathlib.Core.List.{List, ◌∷◌, ◌++◌, append-nil}
 use lib.ListN.{length, take, drop, replicate, length-append}
 use borrow.Author.Tests.{le-leb, lt-leb}
 use Rattle.octets.specs.Parts.{part, put}
 use Rattle.octets.specs.Same.{same}
-use Rattle.octets.proofs.Comparing.{same_length}
+use Rattle.octets.proofs.Comparing.{same_is_equal}
 use Rattle.octets.proofs.Placing.{put-fits}
 use Rattle.octets.proofs.Runs.{length_part}
 use Rattle.table.specs.Table.{Column, stands}
+
+-- rows of other lengths are not equal
+other_lengths : (s t : List ℕ) → (length s ≡ length t → ⊥) → same s t ≡ false
+other_lengths s t h = by (same s t) refl
+  where
+    by : (b : Bool) → same s t ≡ b → b ≡ false
+    by true e = absurd (h (ap length ((same_is_equal s t).0 e)))
+    by false e = refl
 
 -- fewer zeros of several
 zeros-before : (k n : ℕ) → k ≤ n → take {A = ℕ} k (replicate n 0) ≡ replicate k 0
@@ -31,7 +39,7 @@ module _ (c : Column) (packet value : List ℕ) where
         let n : length (part packet c.offset c.width) ≡ c.width = length_part packet c.offset c.width inside in
         let longer : length value ≡ length (replicate (8 - c.width) 0 ++ part packet c.offset c.width) → ⊥ =
         λ e. omega (arith, e, l, n, h, length-append (replicate (8 - c.width) 0) (part packet c.offset c.width)) in
-        simp (le-leb _ _ inside, same_length value (replicate (8 - c.width) 0 ++ part packet c.offset c.width) longer)
+        simp (le-leb _ _ inside, other_lengths value (replicate (8 - c.width) 0 ++ part packet c.offset c.width) longer)
 
     -- zeros with the octets put at their end
     padded : c.width ≤ 8 → put (replicate 8 0) (8 - c.width) (part packet c.offset c.width)

@@ -1,4 +1,5 @@
 pub mod Table
+pub mod Told
 pub mod Statements
 pub mod Form
 pub mod Look

@@ -2,15 +2,16 @@
 // Nothing here reads a file: the table comes in pieces, twice.
 #![tactic(auto)]
 
-ghost use Rattle.std.specs.Prelude.{◌+◌, ◌*◌, ◌≤◌, ◌<◌, min, ◌≡◌, true, [], length, drop};
+ghost use Rattle.std.specs.Prelude.{◌+◌, ◌*◌, ◌≤◌, ◌<◌, ◌≡◌, true, [], length, drop};
 ghost use Rattle.std.proofs.Math.Option.{some};
 ghost use Rattle.std.proofs.Math.ListN.{get_elem?};
 ghost use Rattle.packet.specs.Packet.{read_packet};
 ghost use Rattle.table.specs.Table.{four_at, rows_from, columns_in, widths_wrong, badly_formed, stands, against, row_in};
 ghost use Rattle.table.specs.Form.{known, grown, started};
+ghost use Rattle.table.specs.Told.{told};
 ghost use Rattle.table.specs.Look.{at_hand, handed, reason_at, looked, ended};
 
-use packet::{Packet, PacketRead};
+use packet::Packet;
 
 // The table passes, or its first faulty row, counted from 1, with its first reason; row 0 for a file that is badly formed.
 #[derive(Clone, Copy)]
@@ -55,16 +56,6 @@ pub struct Looked {
     pub wanted: Wanted,
 }
 
-// The lesser of two numbers.
-fn lesser(a: usize, b: usize) -> usize
-    ensures { result ≡ min a b }
-{
-    if a < b {
-        return a;
-    }
-    b
-}
-
 // The number of the four octets at an index.
 fn four_at(s: &[u8], at: usize) -> u32
     requires { at + 4 ≤ length s.now }
@@ -78,13 +69,11 @@ fn widths_wrong(head: &[u8], columns: usize) -> bool
     requires { 4 + 2 * columns ≤ length head.now }
     ensures { result ≡ widths_wrong (columns_in columns (drop 4 head.now)) }
 {
-    let mut i = 0;
-    while i < columns {
+    for i in 0..columns {
         let width = head[5 + 2 * i];
         if (width == 0) | (Form::WIDEST < width) {
             return true;
         }
-        i += 1;
     }
     false
 }
@@ -133,15 +122,14 @@ impl Form {
     pub fn read(self, piece: &[u8]) -> Form
         ensures { result ≡ grown self piece.now }
     {
-        let length = self.length;
-        let room = Form::HEAD - lesser(length, Form::HEAD);
-        let n = lesser(piece.len(), room);
+        let room = Form::HEAD - self.length.min(Form::HEAD);
+        let n = piece.len().min(room);
         let mut head = self.head;
-        octets::put(&mut head, length, &piece[..n]);
-        let before = lesser(length, Form::MOST);
+        octets::put(&mut head, self.length, &piece[..n]);
+        let before = self.length.min(Form::MOST);
         Form {
             head,
-            length: before + lesser(piece.len(), Form::MOST - before),
+            length: before + piece.len().min(Form::MOST - before),
         }
     }
 
@@ -149,21 +137,20 @@ impl Form {
     pub fn end(self) -> Check
         ensures { result ≡ started self }
     {
-        let head = self.head;
         let mut check = Check {
             formed: false,
-            head,
+            head: self.head,
             columns: 0,
             rows: 0,
             row: 0,
             least: 0,
             number: 1,
         };
-        if badly_formed(&head, self.length) {
+        if badly_formed(&self.head, self.length) {
             return check;
         }
-        let columns = four_at(&head, 0);
-        let rows = four_at(&head, 4 + 2 * columns as usize);
+        let columns = four_at(&self.head, 0);
+        let rows = four_at(&self.head, 4 + 2 * columns as usize);
         check.formed = true;
         check.columns = columns as u8;
         check.rows = rows;
@@ -175,10 +162,7 @@ impl Form {
 fn accepted(packet: &[u8]) -> bool
     ensures { result ≡ (read_packet packet.now).accepted }
 {
-    match Packet::read(packet) {
-        PacketRead::Packet(_) => true,
-        PacketRead::Refused(_) => false,
-    }
+    Packet::read(packet).is_ok()
 }
 
 // Whether the octets of a column are in the packet, and the value is these behind zeros.
@@ -186,8 +170,8 @@ fn stands(offset: u8, width: u8, packet: &[u8], value: &[u8]) -> bool
     requires { length value.now ≡ 8 }
     ensures { result ≡ stands (record { offset = offset; width = width }) packet.now value.now }
 {
-    let at = octets::wide(offset);
-    let n = octets::wide(width);
+    let at = usize::from(offset);
+    let n = usize::from(width);
     if packet.len() < at + n {
         return false;
     }
@@ -199,29 +183,29 @@ fn stands(offset: u8, width: u8, packet: &[u8], value: &[u8]) -> bool
     octets::same(value, &whole)
 }
 
-// What is against the row at the start of row, about a packet that the packet reader accepts: 72 to 74, or 0 for nothing.
-fn against(head: &[u8], columns: usize, row: &[u8], packet: &[u8], arrival: u32) -> u16
+// What is against the row at the start of row, about a packet that the packet reader accepts: 72 to 74, if anything is.
+fn against(head: &[u8], columns: usize, row: &[u8], packet: &[u8], arrival: u32) -> Option<u16>
     requires in_bounds { 17 ≤ length row.now }
     requires packet_value { (read_packet packet.now).accepted ≡ true }
-    ensures { result ≡ against (row_in row.now)
+    ensures { result ≡ told (against (row_in row.now)
         (get_elem? (columns_in columns (drop 4 head.now)) (row_in row.now).column)
-        (some (handed packet.now arrival)) }
+        (some (handed packet.now arrival))) }
 {
-    let column = octets::wide(row[4]);
+    let column = usize::from(row[4]);
     if columns <= column {
-        return answer::ROW_PACKET;
+        return Some(answer::ROW_PACKET);
     }
     let c = octets::part(head, 4 + 2 * column, 2);
     if c.len() < 2 {
-        return answer::ROW_PACKET;
+        return Some(answer::ROW_PACKET);
     }
     if !stands(c[0], c[1], packet, octets::part(row, 9, 8)) {
-        return answer::ROW_VALUE;
+        return Some(answer::ROW_VALUE);
     }
     if four_at(row, 5) < arrival {
-        return answer::ROW_CLAIM;
+        return Some(answer::ROW_CLAIM);
     }
-    0
+    None
 }
 
 impl Check {
@@ -229,25 +213,24 @@ impl Check {
     pub fn start(self) -> usize
         ensures { result ≡ rows_from self.columns }
     {
-        8 + 2 * octets::wide(self.columns)
+        8 + 2 * usize::from(self.columns)
     }
 
-    // The first reason against the row at the start of row, 0 if there is none.
-    fn reason(self, row: &[u8], packet: &[u8], accepted: bool, arrival: u32) -> u16
+    // The first reason against the row at the start of row, if there is one.
+    fn reason(self, row: &[u8], packet: &[u8], accepted: bool, arrival: u32) -> Option<u16>
         requires in_bounds { 17 ≤ length row.now }
         requires accepted_value { accepted ≡ (read_packet packet.now).accepted }
-        ensures { result ≡ reason_at self
-            (at_hand self (handed packet.now arrival) (row_in row.now)) (row_in row.now) }
+        ensures { result ≡ told (reason_at self
+            (at_hand self (handed packet.now arrival) (row_in row.now)) (row_in row.now)) }
     {
         let number = four_at(row, 0);
         if number < self.least {
-            return answer::ROW_ORDER;
+            return Some(answer::ROW_ORDER);
         }
         if (number != self.number) | !accepted {
-            return answer::ROW_PACKET;
+            return Some(answer::ROW_PACKET);
         }
-        let head = self.head;
-        against(&head, octets::wide(self.columns), row, packet, arrival)
+        against(&self.head, usize::from(self.columns), row, packet, arrival)
     }
 
     // Looks at the whole rows at the start of rows, one after another, beside the packet that was handed out with this arrival number,
@@ -287,8 +270,7 @@ impl Check {
                     wanted: Wanted::Packet,
                 };
             }
-            let reason = check.reason(&rows[at..], packet, accepted, arrival);
-            if reason != 0 {
+            if let Some(reason) = check.reason(&rows[at..], packet, accepted, arrival) {
                 let verdict = Verdict::Faulty {
                     reason,
                     row: check.row + 1,

@@ -40,7 +40,7 @@ fn worded(why: Error, n: u64) -> usize {
     match why.raw_os_error() {
         Some(code) => {
             let behind = numbered(code);
-            if all < behind { all } else { all - behind }
+            all.checked_sub(behind).unwrap_or(all)
         }
         None => all,
     }
@@ -63,7 +63,7 @@ pub fn count(counts: &mut [u64], number: u16)
 {
     let n = number as usize;
     if n < counts.len() {
-        counts[n] = std::num::wrapping_add_u64(counts[n], 1);
+        counts[n] = counts[n].wrapping_add(1);
     }
 }
 
@@ -84,14 +84,12 @@ fn refused(name: &[u8], count: u64, what: &[u8], number: u64) {
 fn next(counts: &[u64], from: usize) -> usize
     ensures { result ≡ next_of counts.now from }
 {
-    let mut i = from;
-    while i < counts.len() {
+    for i in from..counts.len() {
         if counts[i] != 0 {
             return i;
         }
-        i += 1;
     }
-    i
+    from.max(counts.len())
 }
 
 // Says how many of what were refused, by the refusals' rising numbers.

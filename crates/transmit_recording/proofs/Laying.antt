@@ -1,7 +1,7 @@
 -- Laws of a recording that is laid into an output, a frame after another.
 use Rattle.std.proofs.Common.{◌≡◌, ℕ, suc, ◌+◌, ◌-◌, ◌*◌, ◌%◌, ◌<◌, ◌≤◌, ltb, List, [], ◌++◌, length, take, drop, sym, refl, ap, ◌∙◌, subst}
 use Rattle.std.proofs.Common.{append_assoc, append-nil, add-one, arith, length-append, length-drop, drop_of_length-le, length-take-le}
-use Rattle.std.proofs.Common.{take_all, drop-cons, drop-drop, ltb-false, ltb-true, le-ltb, lt-ltb}
+use Rattle.std.proofs.Common.{take_all, drop-cons, drop-drop, ltb-false, ltb-true, le-ltb, lt-ltb, min}
 use Rattle.octets.specs.Numbers.{at, word_of}
 use Rattle.octets.specs.Parts.{part, put, written}
 use Rattle.octets.specs.Pick.{pick}
@@ -71,13 +71,12 @@ module _ (rest : List ℕ) (n : ℕ) (out : List ℕ) (to : ℕ) where
 -- ---- where the next frame's octets start
 
 module _ (from n end : ℕ) where
-  pub behind-end : end - from < n % lost_mark → end ≡ behind_of from n end
+  pub behind-least : from ≤ end → from + min (n % lost_mark) (end - from) ≡ behind_of from n end
   unfolding behind_of
-  behind-end h = picked _ _ _ (lt-ltb _ _ h)
-
-  pub behind-on : n % lost_mark ≤ end - from → from + n % lost_mark ≡ behind_of from n end
-  unfolding behind_of
-  behind-on h = passed _ _ _ _ (le-ltb _ _ h) refl
+  behind-least h =
+      picks (λ (x : ℕ). from + min (n % lost_mark) (end - from) ≡ x) (ltb (end - from) (n % lost_mark)) end (from + n % lost_mark)
+      (λ e. omega (arith, ltb-true (end - from) (n % lost_mark) e, h))
+      (λ e. omega (arith, ltb-false (end - from) (n % lost_mark) e, h))
 
   pub behind-inside : from ≤ end → behind_of from n end ≤ end
   unfolding behind_of

@@ -1,10 +1,13 @@
 -- Laws of the frames that a link loses, and of those that arrive.
-use Rattle.std.proofs.Common.{◌≡◌, ℕ, suc, ◌+◌, ◌-◌, ◌%◌, ◌^◌, ◌<◌, ◌≤◌, Bool, true, false, eqb, ltb, List, [], ◌∷◌, length, drop, set, sym}
-use Rattle.std.proofs.Common.{refl, ap, ◌∙◌, add-zero, zero-add, add-one, arith, drop_of_length-le, get_or-drop, drop-cons, drop-drop}
+use Rattle.std.proofs.Common.{◌≡◌, ℕ, suc, ◌+◌, ◌-◌, ◌%◌, ◌^◌, ◌<◌, ◌≤◌, Bool, true, false, cond, eqb, ltb, List, [], ◌∷◌, length, drop, set, sym}
+use Rattle.std.proofs.Common.{refl, ap, ◌∙◌, add-zero, zero-add, add-one, arith, get_or-drop, drop-drop}
+use Rattle.std.specs.Prelude.{count_by}
+use Rattle.std.proofs.lemmas.List.Recursion.{is_count_by}
+use Rattle.octets.specs.Pick.{pick}
 use lib.ListN.{get_or-eq_default}
 use lib.Seq.{set_out}
 use Rattle.octets.specs.Numbers.{at, four_of}
-use Rattle.octets.proofs.Choices.{picked, passed, picks}
+use Rattle.octets.proofs.Choices.{picked, passed}
 use Rattle.transmit_recording.specs.Recording.{lost_sign, lost_at, lost_mark, marked, losing, arrivals_of, arrivals, head_of}
 
 pub no_sign : (link : List ℕ) (i : ℕ) → length link ≤ i → false ≡ lost_at link i
@@ -61,33 +64,16 @@ module _ (link frames : List ℕ) (from to : ℕ) (now : List ℕ) (i : ℕ) (s 
       let n : to - i ≡ 0 = omega arith in
       sym (s.rest ∙ ap (λ (m : ℕ). losing m (drop (i - from) link) now i) n)
 
--- ---- so many of the frames before index i arrive
+-- ---- the frames that arrive are those whose length is not marked
 
-pub record Arrived (frames : List ℕ) (n i : ℕ) : Type 0 where
-  pub few : n ≤ i
-  pub rest : n + arrivals (drop i frames) ≡ arrivals frames
+one_or_none : (b : Bool) (k : ℕ) → pick b 1 0 + k ≡ cond b (1 + k) k
+unfolding pick
+one_or_none true k = refl
+one_or_none false k = zero-add k
 
-pub at_most_1 : (n : ℕ) → arrivals_of n ≤ 1
-unfolding arrivals_of
-at_most_1 n = picks (λ (x : ℕ). x ≤ 1) (ltb n lost_mark) 1 0 (λ _. omega arith) (λ _. omega arith)
-
-pub none_yet : (frames : List ℕ) → Arrived frames 0 0
-none_yet frames = record { few = omega arith; rest = zero-add (arrivals frames) }
-
-module _ (frames : List ℕ) (n i : ℕ) (a : Arrived frames n i) where
-  pub one_on : i < length frames → {k : ℕ} → k ≡ arrivals_of (at frames i) → Arrived frames (n + k) (i + 1)
-  unfolding arrivals
-  one_on l {k} h =
-      let e : arrivals (drop i frames) ≡ arrivals_of (at frames i) + arrivals (drop (i + 1) frames) = rw
-      (drop-cons frames i 0 l, add-one) refl in
-      let m : arrivals_of (at frames i) ≤ 1 = at_most_1 (at frames i) in
-      record { few = omega (arith, a.few, h); rest = omega (arith, a.rest, e, h) }
-
-  pub all-arrived : length frames ≤ i → n % 4294967296 ≡ arrivals frames % 2 ^ 32
-  unfolding arrivals
-  all-arrived l =
-      let e : arrivals (drop i frames) ≡ 0 = ap arrivals (drop_of_length-le frames l) in
-      ap (λ (k : ℕ). k % 4294967296) (let k : n ≡ arrivals frames = omega (arith, a.rest, e) in k)
+pub counted : (frames : List ℕ) → count_by (λ n. ltb n lost_mark) frames ≡ arrivals frames
+unfolding arrivals arrivals_of
+counted frames = sym (is_count_by arrivals (λ n. ltb n lost_mark) refl (λ n ns. one_or_none (ltb n lost_mark) (arrivals ns)) frames)
 
 -- ---- the first octets
 

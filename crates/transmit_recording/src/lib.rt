@@ -4,7 +4,7 @@
 #![tactic(auto)]
 
 ghost use Rattle.std.specs.Prelude.{◌≡◌, ◌+◌, ◌-◌, ◌*◌, ◌%◌, ◌^◌, ◌≤◌, length};
-ghost use Rattle.transmit_recording.specs.Recording.{lost_at, marked, losing, arrivals_of, arrivals, head_of, behind_of};
+ghost use Rattle.transmit_recording.specs.Recording.{lost_at, marked, losing, arrivals, head_of, behind_of};
 ghost use Rattle.transmit_recording.specs.Laid.{LaysOne, LaysFrames, Lays};
 
 // No number of octets.
@@ -17,10 +17,7 @@ const LOST: u16 = 32768;
 fn lost(link: &[u8], i: usize) -> bool
     ensures { result ≡ lost_at link.now i }
 {
-    if i < link.len() {
-        return link[i] == b'-';
-    }
-    false
+    i < link.len() && link[i] == b'-'
 }
 
 // Marks a frame if it is lost.
@@ -38,33 +35,16 @@ fn mark(frames: &mut [u16], i: usize, lost: bool)
 pub fn lose(link: &[u8], frames: &mut [u16], from: usize, to: usize)
     ensures { frames.new ≡ losing (to - from) link.now frames.old from }
 {
-    let mut i = from;
-    while i < to {
+    for i in from..to {
         mark(frames, i, lost(link, i - from));
-        i += 1;
     }
-}
-
-// 1 for a frame that arrives, else 0.
-fn arrives(n: u16) -> usize
-    ensures { result ≡ arrivals_of n }
-{
-    if n < LOST {
-        return 1;
-    }
-    0
 }
 
 // How many of the frames arrive.
 fn arriving(frames: &[u16]) -> u32
     ensures { result ≡ arrivals frames.now % 2 ^ 32 }
 {
-    let mut n: usize = 0;
-    let mut i = 0;
-    while i < frames.len() {
-        n += arrives(frames[i]);
-        i += 1;
-    }
+    let n = frames.iter().filter(|n| **n < LOST).count();
     (n % 4294967296) as u32
 }
 
@@ -87,7 +67,7 @@ fn lay_one(rest: &[u8], n: u16, out: &mut [u8], to: usize) -> usize
     }
     let length = octets::word_octets(n);
     octets::put(out, to, &length);
-    let octets = octets::part(rest, 0, n as usize);
+    let octets = octets::part(rest, 0, usize::from(n));
     octets::put(out, to + 2, octets);
     to + 2 + octets.len()
 }
@@ -97,11 +77,7 @@ fn behind(at: usize, n: u16, end: usize) -> usize
     requires { at ≤ end }
     ensures { result ≡ behind_of at n end }
 {
-    let size = (n % LOST) as usize;
-    if end - at < size {
-        return end;
-    }
-    at + size
+    at + usize::from(n % LOST).min(end - at)
 }
 
 // Lays a recording at the start of out: its first octets, and each frame that arrives behind its length. Answers how many octets it has; if
@@ -131,12 +107,9 @@ fn lay_frames(made: &[u8], frames: &[u16], out: &mut [u8]) -> usize
 {
     let mut to = 9;
     let mut at = 0;
-    let mut i = 0;
-    while i < frames.len() {
-        let n = frames[i];
+    for &n in frames {
         to = lay_one(&made[at..], n, out, to);
         at = behind(at, n, made.len());
-        i += 1;
     }
     to
 }

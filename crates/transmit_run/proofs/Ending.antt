@@ -3,7 +3,6 @@ use Rattle.std.proofs.Common.{◌≡◌, ℕ, ◌+◌, ◌*◌, ◌≤◌, Bool,
 use Rattle.std.proofs.Common.{true≢false, le-ltb}
 use native.Mathlib.Nat.{sub-zero}
 use lib.Seq.{take-append_seam}
-use Rattle.octets.specs.Parts.{written}
 use Rattle.octets.proofs.Choices.{passed}
 use Rattle.window.specs.Window.{hand, unwritten}
 use Rattle.window.specs.declared.Written.{Written}

@@ -31,13 +31,7 @@ const RECORDING: usize = 73737;
 fn faulty(fault: Fault) -> bool
     ensures { result ≡ is_fault fault }
 {
-    match fault {
-        Fault::Nothing => false,
-        Fault::Word => true,
-        Fault::Value => true,
-        Fault::Room => true,
-        Fault::Refused(_) => true,
-    }
+    !matches!(fault, Fault::Nothing)
 }
 
 // Says why a line of the script stops it.
@@ -67,16 +61,6 @@ struct Place {
     fault: Fault,
 }
 
-// a less b, or 0 if b is the larger.
-fn less(a: usize, b: usize) -> usize
-    ensures { result ≡ a - b }
-{
-    if a < b {
-        return 0;
-    }
-    a - b
-}
-
 // One line, from one index of the script up to another. A line `link` gives signs for the frames that follow, one each: - is lost,
 // any other arrives.
 fn turn(
@@ -102,26 +86,21 @@ fn turn(
         next.signs = words::rest(line).len();
         return next;
     }
-    let state = before.state;
-    let link = before.link;
-    let signs = before.signs;
-    let first = state.made;
-    let stepped = transmit_steps::step(state, line, stamp, packets, lengths, made, frames);
-    let after = stepped.state;
-    let fault = stepped.fault;
-    let last = after.made;
+    let first = before.state.made.count;
+    let stepped = transmit_steps::step(before.state, line, stamp, packets, lengths, made, frames);
+    let last = stepped.state.made.count;
     transmit_recording::lose(
-        octets::part(script, link, signs),
+        octets::part(script, before.link, before.signs),
         frames,
-        first.count,
-        last.count,
+        first,
+        last,
     );
-    let more = less(last.count, first.count);
+    let more = last.saturating_sub(first);
     Place {
-        state: after,
-        link: std::num::wrapping_add_usize(link, more),
-        signs: less(signs, more),
-        fault,
+        state: stepped.state,
+        link: std::num::wrapping_add_usize(before.link, more),
+        signs: before.signs.saturating_sub(more),
+        fault: stepped.fault,
     }
 }
 
@@ -130,14 +109,12 @@ fn line_end(s: &[u8], at: usize) -> usize
     requires { at ≤ length s.now }
     ensures { LineEnds s.now at result }
 {
-    let mut i = at;
-    while i < s.len() {
+    for i in at..s.len() {
         if s[i] == b'\n' {
             return i;
         }
-        i += 1;
     }
-    i
+    s.len()
 }
 
 // Where a script stands, and how many lines it went over.
@@ -161,9 +138,8 @@ fn over(
         ≡ running (length script.now) fresh_place script.now 0 0
         (lent stamp.old packets.old lengths.old made.old frames.old) }
 {
-    let state = State::fresh();
     let mut place = Place {
-        state,
+        state: State::fresh(),
         link: 0,
         signs: 0,
         fault: Fault::Nothing,
@@ -176,8 +152,7 @@ fn over(
             place, script, at, end, stamp, packets, lengths, made, frames,
         );
         lines = std::num::wrapping_add_u64(lines, 1);
-        let fault = place.fault;
-        if faulty(fault) {
+        if faulty(place.fault) {
             return Ran { place, lines };
         }
         at = end + 1;
@@ -216,8 +191,7 @@ fn status(ended: Ended) -> i32
     if ended.faulty {
         return window::AGAINST;
     }
-    let written = ended.written;
-    if written.failed() {
+    if ended.written.failed() {
         return window::BROKEN;
     }
     window::DONE
@@ -239,23 +213,19 @@ fn lines(
         (lent stamp.old packets.old lengths.old made.old frames.old)) result }
 {
     let ran = over(script, stamp, packets, lengths, made, frames);
-    let place = ran.place;
-    let fault = place.fault;
-    if faulty(fault) {
-        say(name, ran.lines, fault);
+    if faulty(ran.place.fault) {
+        say(name, ran.lines, ran.place.fault);
         return Ended {
             written: Written::none(),
             faulty: true,
         };
     }
-    let state = place.state;
-    let common = state.common;
-    let row = state.made;
+    let state = ran.place.state;
     let written = hand_on(
         name,
-        common.t,
+        state.common.t,
         made,
-        transmit_steps::front(frames, row.count),
+        transmit_steps::front(frames, state.made.count),
         out,
     );
     Ended {
@@ -308,15 +278,13 @@ fn fill(name: &[u8], source: &window::Source, script: &mut [u8]) -> Filled
         read: Refilled::none(),
         going: true,
     };
-    let mut made: u64 = 0;
-    while state.going {
-        if made == READS {
+    for made in 0..READS {
+        if !state.going {
             return Filled { state, made };
         }
         state = more(name, source, script, state);
-        made += 1;
     }
-    Filled { state, made }
+    Filled { state, made: READS }
 }
 
 // Makes the recording of the script that comes by the descriptor source, on standard output, and answers the exit status. What fails is
@@ -327,12 +295,10 @@ pub fn run(name: &[u8], source: &window::Source) -> i32
 {
     let mut script = io::large_buffer();
     let filled = fill(name, source, &mut script);
-    let state = filled.state;
-    let read = state.read;
-    if read.failed() {
+    if filled.state.read.failed() {
         return window::BROKEN;
     }
-    let have = state.have;
+    let have = filled.state.have;
     if script.len() <= have {
         io::write_all(STDERR_FILENO, name);
         io::write_all(STDERR_FILENO, b": the script has above 65,535 octets\n");

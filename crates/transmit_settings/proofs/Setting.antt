@@ -1,5 +1,5 @@
 -- Laws of the settings, from what the code's calls and tests told.
-use Rattle.std.proofs.Common.{◌≡◌, ℕ, zero, suc, ◌%◌, ◌<◌, ◌≤◌, Bool, true, false, ◌||◌, ltb, List, [], ◌∷◌, length, get_or, set, sym, refl}
+use Rattle.std.proofs.Common.{◌≡◌, ℕ, ◌%◌, ◌<◌, ◌≤◌, Bool, true, false, ◌||◌, ltb, List, length, get_or, set, sym, refl}
 use Rattle.std.proofs.Common.{ap, ◌∙◌, mod-eq_of_lt, arith, ltb-false, le-ltb, lt-ltb}
 use lib.ListN.{get_or-eq_default}
 use Rattle.octets.specs.Numbers.{at}
@@ -15,7 +15,7 @@ use Rattle.transmit_settings.specs.State.{row, more, with_common, with_counts, w
 use Rattle.transmit_settings.specs.State.{after_sent, from_source, to_destination}
 use Rattle.transmit_settings.specs.Setting.{stopped, going, source_word, destination_word, time_word, up_to, address_of, address_wrong}
 use Rattle.transmit_settings.specs.Setting.{set_address, set_time, set_number, observed, setting}
-use Rattle.transmit_settings.specs.declared.Fault.TheVariants.{Nothing, Word, Value}
+use Rattle.transmit_settings.specs.declared.Fault.TheVariants.{Value}
 use Rattle.transmit_settings.specs.declared.Row.{Row}
 use Rattle.transmit_settings.specs.declared.State.{State}
 use Rattle.transmit_settings.specs.declared.Stepped.{Stepped}
@@ -25,13 +25,12 @@ row_is p q = cc
 
 module _ (s : State) where
   module _ (v : ℕ) (e : v ≡ s.common.channel) where
-    pub channel-count : v < 8 → at s.counts v ≡ count_of s
+    pub channel-count : length s.counts ≡ 8 → at s.counts v ≡ count_of s
     unfolding count_of
-    channel-count l = ap (at s.counts) e ∙ picked _ _ _ (lt-ltb s.common.channel 8 (omega (arith, e)))
-
-    pub no_channel_count : 8 ≤ v → 0 ≡ count_of s
-    unfolding count_of
-    no_channel_count l = passed _ _ _ _ (le-ltb s.common.channel 8 (omega (arith, e))) refl
+    channel-count l =
+        ap (at s.counts) e
+        ∙ picks (λ (x : ℕ). at s.counts s.common.channel ≡ x) (ltb s.common.channel 8) (at s.counts s.common.channel) 0 (λ _. refl)
+        (λ h. let k : length s.counts ≤ s.common.channel = omega (arith, ltb-false s.common.channel 8 h, l) in get_or-eq_default s.counts 0 k)
 
   module _ (count v : ℕ) (e : v ≡ s.common.channel) where
     pub channel-counted : v < 8 → with_counts s (set s.counts v count) ≡ with_count s count
@@ -52,14 +51,6 @@ module _ (s : State) where
       ∙ ap (λ (x : Row). with_made (with_master (with_count s t.count.0) t.master.0) x) q
 
 -- a character of a callsign
-pub sign-there : (s : List ℕ) (i : ℕ) → i < length s → get_or s i 0 ≡ get_or s i space
-sign-there [] i h = absurd (omega arith)
-sign-there (x ∷ s) zero h = refl
-sign-there (x ∷ s) (suc i) h = sign-there s i (omega arith)
-
-pub sign-beyond : (s : List ℕ) (i : ℕ) → length s ≤ i → space ≡ get_or s i space
-sign-beyond s i h = sym (get_or-eq_default s space h)
-
 pub address_is : (s : List ℕ) (ssid : ℕ) {a b c d e f : ℕ} → a ≡ get_or s 0 space → b ≡ get_or s 1 space → c ≡ get_or s 2 space
     → d ≡ get_or s 3 space
     → e ≡ get_or s 4 space → f ≡ get_or s 5 space

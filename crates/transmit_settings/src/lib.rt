@@ -119,20 +119,17 @@ impl State {
     pub fn count(self) -> u8
         ensures { result ≡ count_of self }
     {
-        let common = self.common;
-        let v = octets::wide(common.channel);
-        if v < 8 {
-            return self.counts[v];
-        }
-        0
+        self.counts
+            .get(usize::from(self.common.channel))
+            .copied()
+            .unwrap_or(0)
     }
 
     // With another count of the channel's next frame.
     pub fn counted(self, count: u8) -> State
         ensures { result ≡ with_count self count }
     {
-        let common = self.common;
-        let v = octets::wide(common.channel);
+        let v = usize::from(self.common.channel);
         if v < 8 {
             let mut next = self;
             next.counts[v] = count;
@@ -145,12 +142,9 @@ impl State {
     pub fn sent(self, s: Sent) -> State
         ensures { result ≡ after_sent self s }
     {
-        let master = s.master;
-        let count = s.count;
-        let made = self.made;
-        let mut next = self.counted(count.0);
-        next.master = master.0;
-        next.made = made.more(s.octets, s.frames);
+        let mut next = self.counted(s.count.0);
+        next.master = s.master.0;
+        next.made = self.made.more(s.octets, s.frames);
         next
     }
 }
@@ -159,10 +153,7 @@ impl State {
 fn sign(s: &[u8], i: usize) -> u8
     ensures { result ≡ slice_index_or s.now i space }
 {
-    if i < s.len() {
-        return s[i];
-    }
-    b' '
+    s.get(i).copied().unwrap_or(b' ')
 }
 
 // The address of a callsign, with an SSID.
@@ -224,8 +215,7 @@ fn number(state: State, word: &[u8], n: usize) -> Stepped
         return up_to(999999, n, state, next);
     }
     if octets::same(word, b"t") {
-        let made = state.made;
-        if made.count != 0 {
+        if state.made.count != 0 {
             return state.stopped(Fault::Value);
         }
         common.t = x;

@@ -1,4 +1,5 @@
 -- Laws of the lines that make frames or set something, and of a whole step.
+use Rattle.std.specs.Prelude.{Ok, Err}
 use Prim.Native.Nat.{ℕ, ◌≤◌, ◌<◌}
 use native.Mathlib.Omega.{arith}
 use mathlib.Core.Path.{◌≡◌, sym, ap, subst, ◌∙◌}
@@ -12,11 +13,11 @@ use Rattle.octets.specs.Pick.{pick}
 use Rattle.octets.specs.Parts.{part}
 use Rattle.octets.specs.Same.{same}
 use Rattle.octets.proofs.Choices.{picked, passed}
-use Rattle.answer.specs.Told.{Told}
+use Rattle.answer.specs.Told.{Told, number_of}
+use Rattle.answer.specs.declared.Reason.{Reason}
 use Rattle.sender.specs.Send as sender
 use Rattle.sender.specs.declared.Sent.{Sent}
-use Rattle.sender.specs.declared.SendAnswer.{SendAnswer}
-use Rattle.sender.specs.declared.SendAnswer.TheVariants as answer
+use Rattle.sender.specs.Answers.{SendAnswer}
 use Rattle.words.specs.Octets.{hex_count, hex_left}
 use Rattle.words.specs.Words.{word_of, rest_of}
 use Rattle.transmit_settings.specs.State.{count_of, more, with_made, after_sent}
@@ -54,18 +55,18 @@ module _ (s : State) (stamp out frames : List ℕ) {count : ℕ} {time : List �
   unfolding emptying
   ends = ap (λ (x : Told Sent). ending x out') told_is ∙ ap (ending (empty_told s stamp out)) done.leaves
 
-  pub emptied_on : {t : Sent} {next : State} {r : Stepped} {frames' : List ℕ} → a ≡ answer.Sent t → next ≡ after_sent s t → r ≡ going next
+  pub emptied_on : {t : Sent} {next : State} {r : Stepped} {frames' : List ℕ} → a ≡ Ok t → next ≡ after_sent s t → r ≡ going next
       → frames' ≡ entered frames s.made.count t.octets → laid r out' frames' ≡ emptying s stamp out frames
   unfolding answered pick
   emptied_on {t} {next} {r} {frames'} ea en er ef =
       ap (λ (x : Stepped). laid x out' frames') (er ∙ ap going en) ∙ ap (laid (going (after_sent s t)) out') ef
       ∙ ap (λ (x : SendAnswer). ending (sender.told x) out') (sym ea) ∙ ends
 
-  pub not_emptied : {n : ℕ} {r : Stepped} → a ≡ answer.Refused n → r ≡ stopped s (Refused n)
+  pub not_emptied : {q : Reason} {n : ℕ} {r : Stepped} → a ≡ Err q → n ≡ number_of q → r ≡ stopped s (Refused n)
       → laid r out' frames ≡ emptying s stamp out frames
   unfolding answered pick
-  not_emptied ea er =
-      ap (λ (x : Stepped). laid x out' frames) er ∙ ap (λ (x : SendAnswer). ending (sender.told x) out') (sym ea) ∙ ends
+  not_emptied ea en er =
+      ap (λ (x : Stepped). laid x out' frames) (er ∙ ap (λ (k : ℕ). stopped s (Refused k)) en) ∙ ap (λ (x : SendAnswer). ending (sender.told x) out') (sym ea) ∙ ends
 
 -- ---- a frame as it stands
 

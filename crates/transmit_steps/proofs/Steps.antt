@@ -1,23 +1,24 @@
 -- Laws of the steps, from what the code's calls and tests told.
+use Rattle.std.specs.Prelude.{Ok, Err}
 use Prim.Native.Nat.{ℕ, ◌+◌, ◌-◌, ◌≤◌, ◌<◌}
 use native.Mathlib.Omega.{arith}
-use mathlib.Core.Path.{◌≡◌, refl, sym, ap, ◌∙◌}
-use mathlib.Core.Bool.{Bool, true, false, ◌||◌}
+use mathlib.Core.Path.{◌≡◌, sym, ap, ◌∙◌}
+use mathlib.Core.Bool.{true, false}
 use mathlib.Core.List.{List, [], ◌++◌, append-nil}
 use lib.ListN.{length, take, drop, length-drop}
-use lib.Seq.{take_all, drop-drop, drop-length, set_out, length-take-le}
-use lib.Dec.{eqb, ltb}
-use borrow.Author.Tests.{lt-ltb, le-ltb, lt-leb, le-leb, eq-eqb, ne_eqb}
+use lib.Seq.{take_all, drop-drop, drop-length}
+use lib.Dec.{ltb}
+use borrow.Author.Tests.{lt-ltb, le-ltb, lt-leb, le-leb}
 use borrow.Rule.Slice.PartMut.{put_mid}
-use Rattle.octets.specs.Numbers.{at}
 use Rattle.octets.specs.Pick.{pick}
 use Rattle.octets.specs.Parts.{part}
 use Rattle.octets.proofs.Choices.{picked, passed}
+use Rattle.answer.specs.Told.{number_of}
+use Rattle.answer.specs.declared.Reason.{Reason}
 use Rattle.sender.specs.Frames.{wanted}
 use Rattle.sender.specs.Send as sender
 use Rattle.sender.specs.declared.Sent.{Sent}
-use Rattle.sender.specs.declared.SendAnswer.{SendAnswer}
-use Rattle.sender.specs.declared.SendAnswer.TheVariants as answer
+use Rattle.sender.specs.Answers.{SendAnswer}
 use Rattle.words.specs.Octets.{hex_count, hex_left}
 use Rattle.transmit_settings.specs.State.{count_of, no_row, more, with_waiting, after_sent}
 use Rattle.transmit_settings.specs.Setting.{stopped, going}
@@ -25,9 +26,8 @@ use Rattle.transmit_settings.specs.declared.Fault.TheVariants.{Value, Room, Refu
 use Rattle.transmit_settings.specs.declared.Row.{Row}
 use Rattle.transmit_settings.specs.declared.State.{State}
 use Rattle.transmit_settings.specs.declared.Stepped.{Stepped}
-use Rattle.transmit_steps.specs.Step.{remark, behind, entered, queued, queuing}
+use Rattle.transmit_steps.specs.Step.{behind, entered, queued, queuing}
 use Rattle.transmit_steps.specs.Step.{Laid, laid, answered, wanted_of, sending, sending_all}
-use Rattle.transmit_steps.specs.Step.{lent, Outcome}
 
 -- ---- a list's rest, as it is lent and as it is left
 
@@ -47,26 +47,6 @@ part_left i d p h =
     ∙ ap (λ (j : ℕ). drop j d) (let j : i + (length d - i) ≡ length d = omega arith in j)
     ∙ drop-length d in
     rw none (ap (λ (z : List ℕ). take i d ++ z) (append-nil p))
-
--- ---- lists
-
-pub not_entered : (d : List ℕ) (i n : ℕ) → length d ≤ i → d ≡ entered d i n
-not_entered d i n h = sym (set_out d i _ h)
-
-pub all_of : (d : List ℕ) (n : ℕ) → length d < n → d ≡ take n d
-all_of d n h = sym (take_all n d (omega arith))
-
-pub first_of : (d : List ℕ) (n : ℕ) → n ≤ length d → n ≡ length (take n d)
-first_of d n h = sym (length-take-le n d h)
-
-or_first : (a b : Bool) → a ≡ true → true ≡ (a || b)
-or_first a b h = rw h refl
-
-pub empty-line : (line : List ℕ) → length line ≡ 0 → true ≡ (eqb (length line) 0 || eqb (at line 0) remark)
-empty-line line h = or_first (eqb (length line) 0) _ (eq-eqb _ _ h)
-
-pub first-sign : (line : List ℕ) → (length line ≡ 0 → ⊥) → eqb (at line 0) 35 ≡ (eqb (length line) 0 || eqb (at line 0) remark)
-first-sign line h = ap (λ (b : Bool). b || eqb (at line 0) remark) (sym (ne_eqb _ _ h))
 
 -- ---- a packet more
 
@@ -158,18 +138,18 @@ module _ (s : State) (stamp packets lengths out list : List ℕ) {count : ℕ} {
         (wanted s.common (record { 0 = s.master }) (record { 0 = count_of s }) (part stamp 0 s.stamp)
         (part packets 0 s.waiting.octets) x s.size) (sender.lent out list)) pl
 
-    pub sent-on : {t : Sent} {next : State} {r : Stepped} → a ≡ answer.Sent t → next ≡ after_sent s t → r ≡ going (with_waiting next no_row)
+    pub sent-on : {t : Sent} {next : State} {r : Stepped} → a ≡ Ok t → next ≡ after_sent s t → r ≡ going (with_waiting next no_row)
         → laid r out' list' ≡ sending s stamp packets lengths out list
     unfolding sending answered pick
     sent-on ea en er =
         ap (λ (x : Stepped). laid x out' list') (er ∙ ap (λ (x : State). going (with_waiting x no_row)) en)
         ∙ ap (λ (x : SendAnswer). by s (sender.observed x out' list')) (sym ea) ∙ ap (by s) asked
 
-    pub refused-on : {n : ℕ} {r : Stepped} → a ≡ answer.Refused n → r ≡ stopped s (Refused n)
+    pub refused-on : {q : Reason} {n : ℕ} {r : Stepped} → a ≡ Err q → n ≡ number_of q → r ≡ stopped s (Refused n)
         → laid r out' list' ≡ sending s stamp packets lengths out list
     unfolding sending answered pick
-    refused-on ea er =
-        ap (λ (x : Stepped). laid x out' list') er ∙ ap (λ (x : SendAnswer). by s (sender.observed x out' list')) (sym ea) ∙ ap (by s) asked
+    refused-on ea en er =
+        ap (λ (x : Stepped). laid x out' list') (er ∙ ap (λ (k : ℕ). stopped s (Refused k)) en) ∙ ap (λ (x : SendAnswer). by s (sender.observed x out' list')) (sym ea) ∙ ap (by s) asked
 
 module _ (s : State) (stamp packets lengths out frames : List ℕ) {r : Stepped} where
   pub no_frames : length frames < s.made.count → r ≡ stopped s Room

@@ -22,7 +22,6 @@ ghost use Rattle.transmit_steps.specs.Step.{
 };
 
 use counts::{ChannelCount, MasterCount};
-use sender::SendAnswer;
 use transmit_settings::{Fault, Row, State, Stepped};
 
 // The longest frame that a recording can hold.
@@ -65,10 +64,7 @@ fn packet(state: State, value: &[u8], packets: &mut [u8], lengths: &mut [u16]) -
 pub fn front(list: &[u16], n: usize) -> &[u16]
     ensures { result.now ≡ take n list.now }
 {
-    if list.len() < n {
-        return list;
-    }
-    &list[..n]
+    &list[..n.min(list.len())]
 }
 
 // The frames of the packets that wait, with their lengths.
@@ -83,10 +79,9 @@ fn send(
     ensures { laid result out.new list.new
         ≡ sending state stamp.now packets.now lengths.now out.old list.old }
 {
-    let common = state.common;
     let waiting = state.waiting;
     match sender::send(
-        common,
+        state.common,
         MasterCount(state.master),
         ChannelCount(state.count()),
         octets::part(stamp, 0, state.stamp),
@@ -96,7 +91,7 @@ fn send(
         out,
         list,
     ) {
-        SendAnswer::Sent(s) => {
+        Ok(s) => {
             let none = Row {
                 octets: 0,
                 count: 0,
@@ -105,7 +100,7 @@ fn send(
             next.waiting = none;
             next.going()
         }
-        SendAnswer::Refused(n) => state.stopped(Fault::Refused(n)),
+        Err(reason) => state.stopped(Fault::Refused(reason.number())),
     }
 }
 
@@ -121,8 +116,7 @@ fn send_all(
     ensures { laid result out.new frames.new
         ≡ sending_all state stamp.now packets.now lengths.now out.old frames.old }
 {
-    let made = state.made;
-    let first = made.count;
+    let first = state.made.count;
     if frames.len() < first {
         return state.stopped(Fault::Room);
     }
@@ -134,20 +128,18 @@ fn empty(state: State, stamp: &[u8], out: &mut [u8], frames: &mut [u16]) -> Step
     ensures { laid result out.new frames.new
         ≡ emptying state stamp.now out.old frames.old }
 {
-    let common = state.common;
-    let made = state.made;
     match sender::empty(
-        common,
+        state.common,
         MasterCount(state.master),
         ChannelCount(state.count()),
         octets::part(stamp, 0, state.stamp),
         out,
     ) {
-        SendAnswer::Sent(s) => {
-            enter(frames, made.count, s.octets);
+        Ok(s) => {
+            enter(frames, state.made.count, s.octets);
             state.sent(s).going()
         }
-        SendAnswer::Refused(n) => state.stopped(Fault::Refused(n)),
+        Err(reason) => state.stopped(Fault::Refused(reason.number())),
     }
 }
 
@@ -156,14 +148,13 @@ fn frame(state: State, value: &[u8], out: &mut [u8], frames: &mut [u16]) -> Step
     ensures { laid result out.new frames.new
         ≡ framing state value.now out.old frames.old }
 {
-    let made = state.made;
     let n = words::hex(value, out);
     if LONGEST < n {
         return state.stopped(Fault::Value);
     }
-    enter(frames, made.count, n);
+    enter(frames, state.made.count, n);
     let mut next = state;
-    next.made = made.more(n, 1);
+    next.made = state.made.more(n, 1);
     next.going()
 }
 
@@ -182,10 +173,9 @@ fn make(
         ≡ making state line.now
         (lent stamp.old packets.now lengths.now out.old frames.old) }
 {
-    let made = state.made;
     let word = words::word(line);
     let value = words::rest(line);
-    if frames.len() <= made.count {
+    if frames.len() <= state.made.count {
         return state.stopped(Fault::Room);
     }
     if octets::same(line, b"send") {
@@ -204,10 +194,7 @@ fn make(
 fn passed_over(line: &[u8]) -> bool
     ensures { result ≡ (eqb (length line.now) 0 || eqb (at line.now 0) remark) }
 {
-    if line.len() == 0 {
-        return true;
-    }
-    line[0] == b'#'
+    line.len() == 0 || line[0] == b'#'
 }
 
 // The step that a line is, with the time's octets, the packets that wait and the frames made. Nothing is done of an empty line and of
@@ -226,8 +213,7 @@ pub fn step(
         ≡ stepping state line.now
         (lent stamp.old packets.old lengths.old made.old frames.old) }
 {
-    let row = state.made;
-    let from = row.octets;
+    let from = state.made.octets;
     if passed_over(line) {
         return state.going();
     }

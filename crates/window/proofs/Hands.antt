@@ -1,8 +1,8 @@
 -- Laws of the octets at hand, and of a read behind them.
 use Prim.Native.Nat.{ℕ, zero, suc, ◌+◌, ◌-◌, ◌≤◌, ◌<◌}
 use mathlib.Core.Path.{◌≡◌, refl, sym, ap, ◌∙◌}
-use mathlib.Core.List.{List, [], ◌∷◌, ◌++◌, append-nil}
-use mathlib.Core.Bool.{Bool, true, true≢false}
+use mathlib.Core.List.{List, [], ◌∷◌, ◌++◌}
+use mathlib.Core.Bool.{Bool, true}
 use native.Mathlib.Omega.{arith}
 use native.Mathlib.Nat.{sub-zero, zero-sub, suc-sub-suc}
 use lib.ListN.{length, take, drop, take-append-drop, length-append, length-drop}
@@ -65,16 +65,6 @@ module _ (input : List ℕ) (at end : ℕ) {l : List ℕ} (e : l ≡ hand input 
   module _ (b : List ℕ) (moved : take (length l) b ≡ take (length l) (drop at input)) where
     at-hand : take (length l) b ≡ hand input at end
     at-hand = moved ∙ ap (λ (k : ℕ). take k (drop at input)) (ap length e) ∙ take_own (end - at) (drop at input)
-
-    pub refills-full : length l ≡ length b → Refills input at end b (record { have = length l; came = 0; failed = true; tried = true })
-    refills-full h = record {
-      piece = [];
-      window = ap (λ (k : ℕ). take k b) (sub-zero (length l)) ∙ at-hand ∙ sym (append-nil _);
-      many = refl;
-      inside = omega arith;
-      tried = refl;
-      room = λ f. absurd (true≢false f);
-    }
 
     pub refills : {b' : List ℕ} {came : ℕ} (failed : Bool) → take (length l) b' ≡ take (length l) b → length l + came ≤ length b'
         → length l < length b'

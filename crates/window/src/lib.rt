@@ -3,7 +3,7 @@
 // The octets at hand are those of an input buffer from an index at up to an index end, as far as they are there.
 #![tactic(auto)]
 
-ghost use Rattle.std.specs.Prelude.{◌+◌, ◌≤◌, ◌≡◌, ◌≢◌, length, take, drop};
+ghost use Rattle.std.specs.Prelude.{◌+◌, ◌≤◌, ◌≡◌, ◌≢◌, length, take, drop, IfSome};
 ghost use Rattle.std.specs.Io.{ReadsAtMost};
 ghost use Rattle.std.specs.Process.{exit_status};
 ghost use Rattle.window.specs.Status.{done, against};
@@ -179,13 +179,6 @@ impl Written {
     }
 }
 
-// How many octets a read brought, and whether it failed.
-#[derive(Clone, Copy)]
-struct Got {
-    came: usize,
-    failed: bool,
-}
-
 // The octets at hand.
 pub fn hand(input: &[u8], at: usize, end: usize) -> &[u8]
     ensures { result.now ≡ hand input.now at end }
@@ -219,11 +212,11 @@ pub fn refill(name: &[u8], source: &Source, input: &mut [u8], at: usize, end: us
         };
     }
     let got = read_some(name, source, input, have);
-    let came = got.came;
+    let came = got.unwrap_or(0);
     Refilled {
         have: have + came,
         came,
-        failed: got.failed,
+        failed: got.is_none(),
         tried: true,
     }
 }
@@ -250,31 +243,23 @@ fn shift(input: &mut [u8], at: usize, n: usize)
     requires { n ≤ length (drop at input.old) }
     ensures { take n input.new ≡ take n (drop at input.old) }
 {
-    let mut i = 0;
-    while i < n {
-        input[i] = input[at + i];
-        i += 1;
+    if n != 0 {
+        input.copy_within(at..at + n, 0);
     }
 }
 
-// One read to the octets from index `from` on; one that fails is told.
-fn read_some(name: &[u8], source: &Source, input: &mut [u8], from: usize) -> Got
+// One read to the octets from index `from` on, and how many came; one that fails is told, and answers none.
+fn read_some(name: &[u8], source: &Source, input: &mut [u8], from: usize) -> Option<usize>
     requires { from ≤ length input.old }
-    ensures came_in_bounds { from + result.came ≤ length input.new }
+    ensures came_in_bounds { IfSome result (λ came. from + came ≤ length input.new) }
     ensures input_unchanged { take from input.new ≡ take from input.old }
 {
     let part = &mut input[from..];
     match source.read_once(part) {
-        Ok(came) => Got {
-            came,
-            failed: false,
-        },
+        Ok(came) => Some(came),
         Err(why) => {
             report(name, source, why);
-            Got {
-                came: 0,
-                failed: true,
-            }
+            None
         }
     }
 }

@@ -6,8 +6,8 @@ use native.Mathlib.Nat.{zero-add}
 use mathlib.Core.Path.{◌≡◌, refl, sym, ap, ◌∙◌}
 use mathlib.Core.Bool.{Bool, true, false, false≢true, not, ◌||◌}
 use mathlib.Core.List.{List, [], ◌∷◌}
-use lib.ListN.{length, drop, set, drop_of_length-le}
-use lib.Seq.{drop-cons, paste, paste-suc, take-length}
+use lib.ListN.{length, set}
+use lib.Seq.{paste, paste-suc, take-length}
 use lib.Dec.{eqb, ltb}
 use borrow.Author.Tests.{lt-ltb, le-ltb, eq-eqb, ne_eqb, ltb-false}
 use Rattle.octets.specs.Numbers.{at}
@@ -16,23 +16,6 @@ use Rattle.octets.proofs.Choices.{picked, passed}
 use Rattle.octets.proofs.Tests.{or_left, or_right}
 use Rattle.words.specs.Words.{none}
 use Rattle.words.specs.Octets.{digit_of, other_than_hex, octets_of, hex_wrong, hex_count, hex_left}
-
--- the first i octets are digits
-abbrev pub Digits : List ℕ → ℕ → Type 0
-Digits s i = other_than_hex s ≡ other_than_hex (drop i s)
-
-module _ (s : List ℕ) (i d : ℕ) (e : d ≡ digit_of (at s i)) (h : Digits s i) (l : i < length s) where
-  pub one_more : d ≤ 15 → Digits s (i + 1)
-  unfolding other_than_hex
-  one_more k = h ∙ rw (drop-cons s i 0 l, add-one) (simp (le-ltb 15 (digit_of (at s i)) (omega (arith, e))))
-
-  pub another : 15 < d → true ≡ other_than_hex s
-  unfolding other_than_hex
-  another k = sym (h ∙ rw (drop-cons s i 0 l) (simp (lt-ltb 15 (digit_of (at s i)) (omega (arith, e)))))
-
-pub no_other : (s : List ℕ) (i : ℕ) → Digits s i → length s ≤ i → false ≡ other_than_hex s
-unfolding other_than_hex
-no_other s i h l = sym (h ∙ ap other_than_hex (drop_of_length-le s l))
 
 -- each octet of digits is one
 pub digit_at : (s : List ℕ) (i : ℕ) → other_than_hex s ≡ false → i < length s → digit_of (at s i) ≤ 15

@@ -2,49 +2,16 @@
 use Prim.Native.Nat.{ℕ, suc, ◌+◌, ◌-◌, ◌≤◌, ◌<◌}
 use native.Mathlib.Omega.{arith}
 use native.Mathlib.Numerals.{add-one}
-use native.Mathlib.Nat.{zero-add}
-use mathlib.Core.Path.{◌≡◌, refl, sym, ap, ◌∙◌}
+use mathlib.Core.Path.{◌≡◌, refl, ap, ◌∙◌}
 use mathlib.Core.Bool.{Bool, true, false}
 use mathlib.Core.List.{List, [], ◌∷◌}
-use lib.ListN.{length, take, drop, length-drop, drop_of_length-le}
-use lib.Seq.{drop-cons, take_all}
+use lib.ListN.{length, take, drop, length-drop}
+use lib.Seq.{take_all}
 use lib.Dec.{eqb}
-use borrow.Author.Tests.{eq-eqb, ne_eqb}
-use Rattle.octets.specs.Numbers.{at}
 use Rattle.octets.specs.Pick.{pick}
-use Rattle.octets.specs.Parts.{part}
-use Rattle.octets.proofs.Placing.{part-some}
 use Rattle.words.specs.Words.{space, word_of, rest_of}
 
--- the first i octets are no space
-pub record Before (s : List ℕ) (i : ℕ) : Type 0 where
-  pub inside : i ≤ length s
-  pub word : length (word_of s) ≡ i + length (word_of (drop i s))
-
-pub begun : (s : List ℕ) → Before s 0
-begun s = record { inside = omega arith; word = sym (zero-add _) }
-
-module _ (s : List ℕ) (i : ℕ) (b : Before s i) where
-  pub one_more : i < length s → (at s i ≡ space → ⊥) → Before s (i + 1)
-  unfolding word_of pick
-  one_more l n =
-      let here : length (word_of (drop i s)) ≡ suc (length (word_of (drop (i + 1) s))) =
-      rw (drop-cons s i 0 l, add-one) (simp (ne_eqb (at s i) space n)) in
-      record { inside = omega arith; word = omega (arith, b.word, here) }
-
-  pub at-a-space : i < length s → at s i ≡ space → i ≡ length (word_of s)
-  unfolding word_of pick
-  at-a-space l e =
-      let here : length (word_of (drop i s)) ≡ 0 = rw (drop-cons s i 0 l) (simp (eq-eqb (at s i) space e)) in
-      omega (arith, b.word, here)
-
-  pub at_the_end : length s ≤ i → i ≡ length (word_of s)
-  unfolding word_of
-  at_the_end l =
-      let here : length (word_of (drop i s)) ≡ 0 = simp (drop_of_length-le s l) in
-      omega (arith, b.word, here)
-
-word-front : (s : List ℕ) → take (length (word_of s)) s ≡ word_of s
+pub word-front : (s : List ℕ) → take (length (word_of s)) s ≡ word_of s
 unfolding word_of pick
 word-front [] = refl
 word-front (x ∷ s) = by (eqb x space) (word-front s)
@@ -61,11 +28,6 @@ word-inside (x ∷ s) = by (eqb x space) (word-inside s)
     by : (b : Bool) → length (word_of s) ≤ length s → length (pick b [] (x ∷ word_of s)) ≤ suc (length s)
     by true h = omega arith
     by false h = omega arith
-
--- the part that `word` answers
-pub word-part : (s : List ℕ) (n : ℕ) (r : List ℕ) → n ≡ length (word_of s) → r ≡ part s 0 n → r ≡ word_of s
-word-part s n r e p =
-    p ∙ ap (part s 0) e ∙ sym (part-some s 0 (length (word_of s)) (omega (arith, word-inside s))) ∙ word-front s
 
 -- what `rest` answers
 rest-is : (s : List ℕ) → length (word_of s) < length s → drop (suc (length (word_of s))) s ≡ rest_of s

@@ -11,55 +11,41 @@ pub const NONE: usize = 18446744073709551615;
 
 // How many octets of s come before its first space; all if there is none.
 fn spaced(s: &[u8]) -> usize
-    ensures { result ≡ length (word_of s.now) }
+    ensures value { result ≡ length (word_of s.now) }
+    ensures upper_bound { result ≤ length s.now }
 {
-    let mut i = 0;
-    while i < s.len() {
-        if s[i] == b' ' {
-            return i;
-        }
-        i += 1;
-    }
-    i
+    s.iter().position(|x| *x == b' ').unwrap_or(s.len())
 }
 
 // The first word of s, up to a space, and what stands behind that space.
 pub fn word(s: &[u8]) -> &[u8]
     ensures { result.now ≡ word_of s.now }
 {
-    octets::part(s, 0, spaced(s))
+    &s[..spaced(s)]
 }
 
 pub fn rest(s: &[u8]) -> &[u8]
     ensures { result.now ≡ rest_of s.now }
 {
-    let n = spaced(s);
-    if s.len() <= n {
-        return &s[..0];
-    }
-    let from = n + 1;
-    &s[from..]
+    s.get(spaced(s) + 1..).unwrap_or(&[])
 }
 
 // The number below 1,000,000 that decimal digits are; else NONE.
 pub fn number(s: &[u8]) -> usize
     ensures { result ≡ number_of s.now }
 {
-    if s.len() == 0 {
+    if s.is_empty() {
         return NONE;
     }
     let mut n: usize = 0;
-    let mut i = 0;
-    while i < s.len() {
-        let x = s[i];
+    for &x in s {
         if (x < b'0') | (b'9' < x) {
             return NONE;
         }
         if 99999 < n {
             return NONE;
         }
-        n = n * 10 + octets::wide(x - b'0');
-        i += 1;
+        n = n * 10 + usize::from(x - b'0');
     }
     n
 }
@@ -68,30 +54,19 @@ pub fn number(s: &[u8]) -> usize
 fn digit(x: u8) -> u8
     ensures { result ≡ digit_of x }
 {
-    if (b'0' <= x) & (x <= b'9') {
-        return x - b'0';
+    match x {
+        b'0'..=b'9' => x - b'0',
+        b'A'..=b'F' => x - b'A' + 10,
+        b'a'..=b'f' => x - b'a' + 10,
+        _ => 16,
     }
-    if (b'A' <= x) & (x <= b'F') {
-        return x - b'A' + 10;
-    }
-    if (b'a' <= x) & (x <= b'f') {
-        return x - b'a' + 10;
-    }
-    16
 }
 
 // Whether any octet of s is no hexadecimal digit.
 fn no_hex(s: &[u8]) -> bool
     ensures { result ≡ other_than_hex s.now }
 {
-    let mut i = 0;
-    while i < s.len() {
-        if 15 < digit(s[i]) {
-            return true;
-        }
-        i += 1;
-    }
-    false
+    s.iter().any(|x| 15 < digit(*x))
 }
 
 // Puts the octets of hexadecimal digits at the start of out, where there is room.
@@ -99,10 +74,8 @@ fn lay(s: &[u8], n: usize, out: &mut [u8])
     requires { (length s.now ≡ 2 * n) × (n ≤ length out.old) × (other_than_hex s.now ≡ false) }
     ensures { out.new ≡ written (octets_of s.now) out.old }
 {
-    let mut i = 0;
-    while i < n {
+    for i in 0..n {
         out[i] = digit(s[2 * i]) * 16 + digit(s[2 * i + 1]);
-        i += 1;
     }
 }
 

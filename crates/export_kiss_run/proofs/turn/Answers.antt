@@ -1,6 +1,7 @@
 -- `export_kiss_run::turn` meets its contract.
 use Rattle.std.proofs.Common.{ap, ◌∙◌, arith}
 use borrow.Enum.Refused.{opened}
+use Rattle.window.specs.Window.{hand}
 use Rattle.export_kiss_run.specs.Turns.{Leads}
 use Rattle.export_kiss_run.proofs.Turning.{scan-sound}
 use Rattle.export_kiss_run.proofs.TurnLaws.{read-on, used-left, went_on}
@@ -34,7 +35,8 @@ emit-written-requires c =
       frames = a.state.frames;
       found = c.scan-scanned.result.taken;
       w = c.hand-2.result.now;
-      same = c.hand-3.ensures ∙ ap (λ (l : Leads). l.said) c.section-led.ensures;
+      same = c.hand-3.ensures ∙ ap (hand c.section-led.new.out c.section-led.result.from) c.unwrap_or-to.ensures
+          ∙ ap (λ (l : Leads). l.said) c.section-led.ensures;
     }
 
 pub returns : goal.returns
@@ -44,6 +46,6 @@ returns c =
     c.scan-scanned.ensures a.both c.hand-2.ensures
     c.section-led.result c.section-led.new.out
     c.section-led.ensures c.wrapping_add_u64-passed.result
-    c.hand-3.ensures c.emit-written.result c.emit-written.ensures
-    c.failed-well.ensures c.none-read.ensures
+    (c.hand-3.ensures ∙ ap (hand c.section-led.new.out c.section-led.result.from) c.unwrap_or-to.ensures) c.emit-written.result
+    c.emit-written.ensures c.failed-well.ensures c.is_err.ensures.value c.none-read.ensures
     (opened c.in_default.in_default-own.keys2)

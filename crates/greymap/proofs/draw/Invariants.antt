@@ -1,11 +1,6 @@
 -- `greymap::draw` meets its contract. The loop has drawn the first n lines.
-use Prim.Native.Nat.{◌-◌}
-use Rattle.image.specs.Line.{image_lines}
 use Rattle.greymap.proofs.Shown.{Drawing}
 use Rattle.greymap.proofs.draw.Given as goal
 
 abbrev pub invariant-loop-n : goal.invariant-loop-n
 invariant-loop-n l = Drawing l.image l.lines l.initial.grey l.n l.grey
-
-abbrev pub decreases-loop-n : goal.decreases-loop-n
-decreases-loop-n l = image_lines - l.n

@@ -4,6 +4,7 @@ use mathlib.Core.Bool.{Bool}
 use lib.ListN.{length}
 use lib.Dec.{ltb}
 use borrow.Author.Tests.{ne_eqb, ltb-false}
+use Rattle.std.proofs.lemmas.Result.{err_from_is_err_and}
 use Rattle.octets.proofs.Choices.{answers, passed}
 use Rattle.octets.proofs.Tests.{tests, or_left, or_right}
 use Rattle.report.specs.Report.{told}
@@ -28,19 +29,21 @@ bring-requires c =
     let short : Bool = ltb (length a.image.now) image_octets in
     let few : Bool = ltb (length a.lines.now) image_lines in
     record {
-      fits = fits _ _ (sym c.read.ensures ∙ ap told c.in-Report.is);
+      fits = fits _ _ (sym c.read.ensures ∙ ap told c.in_ok-report.was);
       room = record { pixels = ltb-false _ _ (or_left short few f); lines = ltb-false _ _ (or_right short few f) };
     }
 
-pub returns-in-Report : goal.returns-in-Report
+pub returns : goal.returns
 unfolding outcome
-returns-in-Report c =
+returns c =
     passed _ _ _ _ c.if-image-lines.false
     (passed _ _ _ _ (ne_eqb _ _ c.if-arrival-eq0.false)
-    (report-accepted _ _ _ _ c.read.ensures c.in-Report.is c.bring.ensures))
+    (report-accepted _ _ _ _ c.read.ensures c.in_ok-report.was c.bring.ensures))
 
-pub returns-in-Refused : goal.returns-in-Refused
+pub returns-in_err-report : goal.returns-in_err-report
 unfolding outcome
-returns-in-Refused c =
+returns-in_err-report c =
+    let p = err_from_is_err_and c.from_residual.result c.from_residual.ensures.1 in
     passed _ _ _ _ c.if-image-lines.false
-    (passed _ _ _ _ (ne_eqb _ _ c.if-arrival-eq0.false) (report-refused _ _ _ _ c.read.ensures c.in-Refused.is))
+    (passed _ _ _ _ (ne_eqb _ _ c.if-arrival-eq0.false)
+    (rw (p.1, p.2) (report-refused _ _ _ _ c.read.ensures c.in_err-report.was)))

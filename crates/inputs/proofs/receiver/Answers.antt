@@ -4,12 +4,12 @@ use Rattle.inputs.proofs.receiver.Goals as goal
 
 pub returns-then-same : goal.returns-then-same
 returns-then-same c =
-    kiss_named _ _ c.same.ensures c.if-same.true c.time.ensures c.kiss-begun.ensures.receiver
+    kiss_named _ _ c.same.ensures c.if-same.true c.time.ensures c.kiss.ensures.receiver
 
 pub returns-then-same-2 : goal.returns-then-same-2
 returns-then-same-2 c =
     bits-named _ _ c.same.ensures c.same-2.ensures
-    c.if-same.false c.if-same-2.true c.time-then-same-2.ensures c.bits-begun.ensures.receiver
+    c.if-same.false c.if-same-2.true c.time-then-same-2.ensures c.bits.ensures.receiver
 
 pub returns : goal.returns
 returns c =

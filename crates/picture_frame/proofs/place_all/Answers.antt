@@ -1,49 +1,33 @@
--- `picture_frame::place_all` meets its contract. The loop has placed the first i packets.
-use Prim.Native.Nat.{ℕ, ◌-◌}
-use mathlib.Core.Path.{refl, ap, ◌∙◌}
+-- `picture_frame::place_all` meets its contract. The loop has placed the packets of the lengths up to one.
+use Prim.Native.Nat.{ℕ, ◌≤◌, ◌<◌, min}
 use native.Mathlib.Omega.{arith}
-use lib.ListN.{take}
-use Rattle.picture_frame.specs.Received.{received, all_placed, packets_in}
-use Rattle.picture_frame.proofs.Packets.{none-placed, one_placed, no_length, no_packet_lem}
-use borrow.Author.Rules.{rules}
+use mathlib.Core.Path.{◌≡◌, ◌∙◌}
+use lib.ListN.{length, take}
+use lib.Seq.{length-take-le, get_or-take}
+use Rattle.octets.specs.Numbers.{at}
+use Rattle.picture_frame.proofs.Packets.{none-placed, one_placed, all-listed}
 use Rattle.picture_frame.proofs.place_all.Goals as goal
 
-pub loop-i-init : goal.loop-i-init
-loop-i-init c = (refl, refl, refl, refl, none-placed _ _ _ _ _ _)
-
-pub returns-then-lengths-i : goal.returns-then-lengths-i
-returns-then-lengths-i c =
-    let a = c.args in
-    let r = received a.pixels.now a.lines.now a.refused.now a.images.now in
-    no_length _ _ _ _ _ _ _ _ _ c.loop-i.invariant.4 c.if-lengths-i.true
-    ∙ ap (λ (k : ℕ). all_placed a.accepted.arrival a.wanted r (packets_in a.octets.now 0 (take k a.lengths.now)))
-    c.wide-n.ensures
-
-pub overflow_cast-size : goal.overflow_cast-size
-overflow_cast-size c =
-    omega (arith, c.shared_slice_known-in-loop-i-1.given c.loop-i.i)
+pub loop-n-init : goal.loop-n-init
+loop-n-init c = none-placed _ _ _ _ _ _
 
 pub overflow_add-from : goal.overflow_add-from
-overflow_add-from c =
-    let l = c.loop-i in
-    omega (arith, c.shared_slice_known-in-loop-i-1.given l.i, l.invariant.4.near, l.invariant.4.most, c.well_formed, c.wide-n.ensures)
+overflow_add-from c = let l = c.loop-n in omega (arith, c.from-size.ensures, l.invariant.near, l.invariant.most, c.well_formed)
 
-pub loop-i-preserved : goal.loop-i-preserved
-loop-i-preserved c =
-    let t = c.place in
-    let l = c.loop-i in
-    let small = c.shared_slice_known-in-loop-i-1.given l.i in (
-      t.auto.pixels ∙ l.invariant.0,
-      t.auto.lines ∙ l.invariant.1,
-      t.auto.refused ∙ l.invariant.2,
-      t.auto.images ∙ l.invariant.3,
-      one_placed _ _ _ _ _ _ _ l.i _ l.invariant.4 (search rules) (search rules) (omega (arith, small)) c.part-packet.ensures t.ensures,
-    )
+pub loop-n-preserved : goal.loop-n-preserved
+loop-n-preserved c =
+    let i = c.loop-n.n-index in
+    let all = c.args.lengths.now in
+    let n = c.from-size.result in
+    let long : length (take c.min.result all) ≡ c.min.result = length-take-le c.min.result all (omega (arith, c.min.ensures)) in
+    let here : i < c.min.result = omega (arith, long, c.loop-n-test.true) in
+    let first : n ≡ at all i = c.from-size.ensures ∙ get_or-take c.min.result all i 0 here in
+    let small : n ≤ 65535 = omega (arith, c.type_inv.lengths i) in
+    one_placed _ _ _ _ _ _ _ i _ c.loop-n.invariant first (omega (arith, c.min.ensures, c.from.ensures)) (omega (arith, c.min.ensures))
+    small c.part-packet.ensures c.place.ensures
 
 pub returns : goal.returns
 returns c =
-    let a = c.args in
-    let r = received a.pixels.now a.lines.now a.refused.now a.images.now in
-    no_packet_lem _ _ _ _ _ _ _ _ _ c.loop-i.invariant.4 (search rules)
-    ∙ ap (λ (k : ℕ). all_placed a.accepted.arrival a.wanted r (packets_in a.octets.now 0 (take k a.lengths.now)))
-    c.wide-n.ensures
+    let all = c.args.lengths.now in
+    let long : length (take c.min.result all) ≡ c.min.result = length-take-le c.min.result all (omega (arith, c.min.ensures)) in
+    all-listed _ _ _ _ _ _ _ _ _ c.loop-n.invariant (omega (arith, c.min.ensures, c.from.ensures))

@@ -12,4 +12,4 @@ returns-in_default-answer c =
 
 pub returns : goal.returns
 returns c =
-    one-counted c.args.frames.now c.in-Answered.is c.in-Refused.is c.count.ensures
+    one-counted c.args.frames.now c.in-Answered.is c.in-Err.is c.count.ensures

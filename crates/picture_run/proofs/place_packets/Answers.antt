@@ -20,4 +20,4 @@ pub returns : goal.returns
 returns c =
     let a = c.args in
     let r = received a.pixels.now a.numbers.now a.packets.now a.images.now in
-    some-placed a.wanted a.octets.now a.lengths.now r c.in-Answered.is c.in-Accepted.is c.place_all.ensures
+    some-placed a.wanted a.octets.now a.lengths.now r c.in-Answered.is c.in-Ok.is c.place_all.ensures

@@ -1,5 +1,4 @@
 -- `picture_run::turns` meets its contract.
-use Prim.Native.Nat.{◌-◌}
 use mathlib.Core.Path.{refl, ◌∙◌}
 use native.Mathlib.Omega.{arith}
 use Rattle.window.proofs.Looping.{stopped, all_made}

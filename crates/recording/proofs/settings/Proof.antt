@@ -24,7 +24,7 @@ returns-4 c =
 returns-5 : tie.Need-returns
 returns-5 c =
     let l = c in
-    ap whole c.wide.ensures ∙ settings-whole _ l.four.ensures l.if-four-ne1.false l.if-n-lt5.false
+    ap whole c.from.ensures ∙ settings-whole _ l.four.ensures l.if-four-ne1.false l.if-n-lt5.false
     c.if-window-gt8.false
 
 pub settings_spec : {M : Type 1} → statement M

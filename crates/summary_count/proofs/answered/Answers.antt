@@ -3,14 +3,14 @@ use Rattle.summary_count.specs.Count.{ledger}
 use Rattle.summary_count.proofs.Handing.{frame-accepted, frame_refused}
 use Rattle.summary_count.proofs.answered.Goals as goal
 
-pub returns-in-Accepted : goal.returns-in-Accepted
-returns-in-Accepted c =
+pub returns-in-Ok : goal.returns-in-Ok
+returns-in-Ok c =
     frame-accepted c.args.octets.now c.args.lengths.now
     (ledger c.args.counts.now c.args.keys.now c.args.many.now c.args.last.now)
-    c.in-Accepted.is c.frame.ensures c.all.ensures
+    c.in-Ok.is c.frame.ensures c.all.ensures
 
-pub returns-in-Refused : goal.returns-in-Refused
-returns-in-Refused c =
+pub returns-in-Err : goal.returns-in-Err
+returns-in-Err c =
     frame_refused c.args.octets.now c.args.lengths.now
     (ledger c.args.counts.now c.args.keys.now c.args.many.now c.args.last.now)
-    c.in-Refused.is c.refusal.ensures
+    c.in-Err.is c.refusal.ensures

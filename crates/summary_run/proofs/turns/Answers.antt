@@ -1,5 +1,4 @@
 -- `turns` meets its contract.
-use Prim.Native.Nat.{◌-◌}
 use mathlib.Core.Path.{refl, ◌∙◌}
 use native.Mathlib.Omega.{arith}
 use Rattle.receiver.specs.Run.{roomy}

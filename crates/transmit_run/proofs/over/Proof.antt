@@ -26,7 +26,7 @@ loop-holds c =
       search rules,
       search rules,
       started a.script.now (lent a.stamp.now a.packets.now a.lengths.now a.made.now a.frames.now)
-          c.fresh-state.ensures,
+          c.fresh.ensures,
     )
 
 returns : tie.Need-returns-then-faulty invariant-loop decreases-loop

@@ -12,5 +12,5 @@ pub returns : goal.returns
 returns c =
     used _ _ _ _ _ c.part-line.ensures c.word.ensures c.same.ensures
     c.if-same.false c.step-stepped.ensures
-    c.part.ensures c.lose.ensures c.less-more.ensures c.wrapping_add_usize-2.ensures.value
-    c.less.ensures
+    c.part.ensures c.lose.ensures c.saturating_sub-more.ensures c.wrapping_add_usize-2.ensures.value
+    c.saturating_sub.ensures

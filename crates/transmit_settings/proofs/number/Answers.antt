@@ -12,12 +12,12 @@ returns-then-same c =
     here _ _ c.same.ensures c.if-same.true
     c.up_to.ensures
 
-pub returns-then-made-ne0 : goal.returns-then-made-ne0
+pub returns-then-state-ne0 : goal.returns-then-state-ne0
 unfolding set_number
-returns-then-made-ne0 c =
+returns-then-state-ne0 c =
     past _ _ c.same.ensures c.if-same.false
     (here _ _ c.same-2.ensures c.if-same-2.true
-    (passed _ _ _ _ (ne_eqb _ _ c.if-made-ne0.true) c.stopped.ensures))
+    (passed _ _ _ _ (ne_eqb _ _ c.if-state-ne0.true) c.stopped.ensures))
 
 pub returns-then-same-2 : goal.returns-then-same-2
 unfolding set_number
@@ -27,7 +27,7 @@ returns-then-same-2 c =
     past _ _ c.same.ensures c.if-same.false
     (here _ _ c.same-2.ensures c.if-same-2.true
     (c.up_to-then-same-2.ensures ∙ narrow a.n s (λ (x : ℕ). with_common s (of_time s.common x)) ∙ picked _ _ _
-    (eq-eqb _ _ c.if-made-ne0.false)))
+    (eq-eqb _ _ c.if-state-ne0.false)))
 
 pub returns-then-same-3 : goal.returns-then-same-3
 unfolding set_number

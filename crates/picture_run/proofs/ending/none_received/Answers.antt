@@ -1,22 +1,19 @@
 -- `ending::none_received` meets its contract.
-use Prim.Native.Nat.{◌-◌}
-use mathlib.Core.Path.{refl, ◌∙◌}
-use Rattle.picture_run.proofs.Whole.{none-at, some_at, none_left}
-use native.Mathlib.Omega.{arith}
-use borrow.Author.Rules.{rules}
+use Rattle.std.proofs.Common.{ℕ, Bool, ◌&&◌, refl, ◌∙◌, rules, tests}
+use Rattle.std.specs.Prelude.{◌==◌}
+use Rattle.std.specs.List.{list_all}
+use Rattle.std.proofs.lemmas.Iterator.{YieldsList-from_slice}
+use Rattle.std.proofs.lemmas.Iterator.Search.{all_from_yields_List}
+use Rattle.std.proofs.lemmas.List.Recursion.{same_from_clauses}
+use Rattle.picture_run.specs.Files.{no_line}
 use Rattle.picture_run.proofs.ending.none_received.Goals as goal
 
-pub loop-i-init : goal.loop-i-init
-loop-i-init c = (omega arith, refl)
-
-pub returns-then-numbers-i-ne0 : goal.returns-then-numbers-i-ne0
-returns-then-numbers-i-ne0 c =
-    some_at c.args.numbers.now c.loop-i.i (search rules) c.if-numbers-i-ne0.true c.loop-i.invariant.1
-
-pub loop-i-preserved : goal.loop-i-preserved
-loop-i-preserved c =
-    (search rules, c.loop-i.invariant.1 ∙ none-at c.args.numbers.now c.loop-i.i (search rules) c.if-numbers-i-ne0.false)
+no_number : ℕ → Bool
+no_number x = x == 0
 
 pub returns : goal.returns
+unfolding no_number
 returns c =
-    none_left c.args.numbers.now c.loop-i.i c.loop-i-test.false c.loop-i.invariant.1
+    let xs = c.args.numbers.now in
+    all_from_yields_List no_number _ _ _ c.all.ensures.ran (YieldsList-from_slice xs (search rules)) (λ x b q k. search (rules, tests))
+    ∙ same_from_clauses (list_all no_number) no_line (λ x r. no_number x && r) refl (λ _ _. refl) (λ _ _. refl) xs

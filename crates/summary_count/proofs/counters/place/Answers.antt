@@ -1,5 +1,4 @@
 -- `summary_count::counters::place` meets its contract.
-use Prim.Native.Nat.{◌-◌}
 use Rattle.summary_count.proofs.Counting.{keys-end, many-end, place_here, place-on}
 use native.Mathlib.Omega.{arith}
 use borrow.Author.Rules.{rules}

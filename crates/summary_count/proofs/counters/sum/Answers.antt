@@ -1,13 +1,18 @@
 -- `summary_count::counters::sum` meets its contract.
-use Rattle.summary_count.proofs.Counting.{cases}
-use Rattle.summary_count.specs.Count.{saturated}
-use borrow.Author.Rules.{rules}
+use Prim.Native.Nat.{ℕ, ◌+◌, ◌-◌, ◌≤◌, ◌<◌}
+use native.Mathlib.Omega.{arith}
+use mathlib.Core.Path.{◌≡◌}
+use lib.Dec.{ltb}
+use borrow.Author.Tests.{ltb-true, ltb-false}
+use Rattle.octets.proofs.Choices.{picks}
+use Rattle.summary_count.specs.Count.{largest, saturated}
 use Rattle.summary_count.proofs.counters.sum.Goals as goal
-
-pub returns-then-x-n : goal.returns-then-x-n
-unfolding saturated
-returns-then-x-n c = search (cases, rules)
 
 pub returns : goal.returns
 unfolding saturated
-returns c = search (cases, rules)
+returns c =
+    let x = c.args.x in
+    let n = c.args.n in
+    picks (λ (s : ℕ). c.saturating_add.result ≡ s) (ltb (largest - x) n) largest (x + n)
+    (λ t. let h : largest - x < n = ltb-true _ _ t in omega (arith, c.saturating_add.ensures))
+    (λ f. let h : n ≤ largest - x = ltb-false _ _ f in omega (arith, c.saturating_add.ensures))

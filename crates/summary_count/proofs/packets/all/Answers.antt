@@ -1,37 +1,33 @@
--- `packets::all` meets its contract. The loop has counted the first i packets.
-use Prim.Native.Nat.{◌-◌}
-use mathlib.Core.Path.{refl, ◌∙◌}
+-- `packets::all` meets its contract. The loop has counted the packets of the lengths up to one.
+use Prim.Native.Nat.{ℕ, ◌≤◌, ◌<◌, min}
 use native.Mathlib.Omega.{arith}
-use Rattle.summary_count.proofs.Handing.{none-counted, one-counted, no_length, no_packet_lem}
-use borrow.Author.Rules.{rules}
+use mathlib.Core.Path.{◌≡◌, ◌∙◌}
+use lib.ListN.{length, take}
+use lib.Seq.{length-take-le, get_or-take}
+use Rattle.octets.specs.Numbers.{at}
+use Rattle.summary_count.proofs.Handing.{none-counted, one-counted, all-listed}
 use Rattle.summary_count.proofs.packets.all.Goals as goal
 
-pub loop-i-init : goal.loop-i-init
-loop-i-init c = (refl, refl, refl, refl, none-counted _ _ _ _)
-
-pub returns-then-lengths-i : goal.returns-then-lengths-i
-returns-then-lengths-i c =
-    no_length _ _ _ _ _ _ _ c.loop-i.invariant.4 c.if-lengths-i.true
-
-pub overflow_cast-to : goal.overflow_cast-to
-overflow_cast-to c =
-    omega (arith, c.shared_slice_known-in-loop-i-1.given c.loop-i.i)
+pub loop-n-init : goal.loop-n-init
+loop-n-init c = none-counted _ _ _ _
 
 pub overflow_add-to : goal.overflow_add-to
-overflow_add-to c =
-    omega (arith, c.shared_slice_known-in-loop-i-1.given c.loop-i.i, c.loop-i.invariant.4.near, c.loop-i.invariant.4.most, c.ranges)
+overflow_add-to c = omega (arith, c.from-in-loop-n.ensures, c.type_inv.n, c.loop-n.invariant.near, c.loop-n.invariant.most, c.ranges)
 
-pub loop-i-preserved : goal.loop-i-preserved
-loop-i-preserved c =
-    let small = c.shared_slice_known-in-loop-i-1.given c.loop-i.i in (
-      c.one.auto.counts ∙ c.loop-i.invariant.0,
-      c.one.auto.keys ∙ c.loop-i.invariant.1,
-      c.one.auto.many ∙ c.loop-i.invariant.2,
-      c.one.auto.last ∙ c.loop-i.invariant.3,
-      one-counted _ _ _ _ _ c.loop-i.i _ c.loop-i.invariant.4 (search rules) (search rules) (omega (arith, small)) c.hand.ensures
-          c.one.ensures,
-    )
+pub loop-n-preserved : goal.loop-n-preserved
+loop-n-preserved c =
+    let i = c.loop-n.n-index in
+    let all = c.args.lengths.now in
+    let n = c.from-in-loop-n.result in
+    let long : length (take c.min.result all) ≡ c.min.result = length-take-le c.min.result all (omega (arith, c.min.ensures)) in
+    let here : i < c.min.result = omega (arith, long, c.loop-n-test.true) in
+    let first : n ≡ at all i = c.from-in-loop-n.ensures ∙ get_or-take c.min.result all i 0 here in
+    let small : n ≤ 65535 = omega (arith, c.type_inv.lengths i) in
+    one-counted _ _ _ _ _ i _ c.loop-n.invariant first (omega (arith, c.min.ensures, c.from.ensures)) (omega (arith, c.min.ensures)) small
+    c.hand.ensures c.one.ensures
 
 pub returns : goal.returns
 returns c =
-    no_packet_lem _ _ _ _ _ _ _ c.loop-i.invariant.4 (search rules)
+    let all = c.args.lengths.now in
+    let long : length (take c.min.result all) ≡ c.min.result = length-take-le c.min.result all (omega (arith, c.min.ensures)) in
+    all-listed _ _ _ _ _ _ _ c.loop-n.invariant (omega (arith, c.min.ensures, c.from.ensures))

@@ -1,18 +1,20 @@
 -- `packets::one` meets its contract.
-use Rattle.summary_count.specs.Count.{ledger, handed_counted}
+use mathlib.Core.Path.{ap, ◌∙◌}
+use Rattle.summary_count.specs.Count.{of_number, ledger, handed_counted}
 use Rattle.summary_count.proofs.Handing.{packet-read, packet-away}
 use Rattle.summary_count.proofs.packets.one.Goals as goal
 
-pub returns-in-Packet : goal.returns-in-Packet
+pub returns-in-Ok : goal.returns-in-Ok
 unfolding handed_counted
-returns-in-Packet c =
+returns-in-Ok c =
     packet-read c.args.packet.now
     (ledger c.args.counts.now c.args.keys.now c.args.many.now c.args.last.now)
-    c.read.ensures c.in-Packet.is c.read-in-Packet.ensures
+    c.read.ensures c.in-Ok.is c.read-in-Ok.ensures
 
-pub returns-in-Refused : goal.returns-in-Refused
+pub returns-in-Err : goal.returns-in-Err
 unfolding handed_counted
-returns-in-Refused c =
+returns-in-Err c =
     packet-away c.args.packet.now
     (ledger c.args.counts.now c.args.keys.now c.args.many.now c.args.last.now)
-    c.read.ensures c.in-Refused.is c.refusal.ensures
+    c.read.ensures c.in-Err.is
+    (c.refusal.ensures ∙ ap (of_number c.args.counts.now 7 66560) c.number.ensures)

@@ -1,5 +1,4 @@
 -- `showing::show` meets its contract.
-use Prim.Native.Nat.{◌-◌}
 use mathlib.Core.Path.{refl, ◌∙◌}
 use native.Mathlib.Omega.{arith}
 use Rattle.window.proofs.Looping.{at_first}

@@ -10,7 +10,7 @@ use borrow.Author.Rules.{rules}
 use Rattle.summary_text.proofs.walks.apids.Goals as goal
 
 pub loop-i-init : goal.loop-i-init
-loop-i-init c = (search rules, search rules, through_none _ _ _)
+loop-i-init c = through_none _ _ _
 
 pub loop-i-preserved : goal.loop-i-preserved
 loop-i-preserved c =
@@ -18,8 +18,8 @@ loop-i-preserved c =
     let a = c.args in
     let text : ℕ → ℕ → List ℕ = λ m n. if_any (saturated m n) ((form a.csv).apid l.i m n) in
     let told = read-two text c.of-missing.ensures c.of-restarted.ensures c.apid-pen.ensures in
-    (search rules, search rules, through_on _ _ l.i l.invariant.2 (search rules) told)
+    through_on _ _ l.i l.invariant (search rules) told
 
 pub returns : goal.returns
 unfolding apid_texts
-returns c = through_all _ _ c.loop-i.i c.loop-i.invariant.2 (search rules)
+returns c = through_all _ _ c.loop-i.i c.loop-i.invariant (search rules)

@@ -9,7 +9,7 @@ use borrow.Author.Rules.{rules}
 use Rattle.summary_text.proofs.walks.channels.Goals as goal
 
 pub loop-i-init : goal.loop-i-init
-loop-i-init c = (search rules, search rules, through_none _ _ _)
+loop-i-init c = through_none _ _ _
 
 pub loop-i-preserved : goal.loop-i-preserved
 loop-i-preserved c =
@@ -18,8 +18,8 @@ loop-i-preserved c =
     let text : ℕ → ℕ → ℕ → List ℕ = λ n lost unknown. if_any n ((form a.csv).channel l.i n lost unknown) in
     let told =
     read-three text c.of-n.ensures c.of-lost.ensures c.of-unknown.ensures c.channel-pen.ensures in
-    (search rules, search rules, through_on _ _ l.i l.invariant.2 (search rules) told)
+    through_on _ _ l.i l.invariant (search rules) told
 
 pub returns : goal.returns
 unfolding channel_texts
-returns c = through_all _ _ c.loop-i.i c.loop-i.invariant.2 (search rules)
+returns c = through_all _ _ c.loop-i.i c.loop-i.invariant (search rules)

@@ -1,10 +1,6 @@
 -- `summary_text::walks::received` meets its contract. The loop has looked at the first i lines.
-use Prim.Native.Nat.{◌-◌, ◌≤◌}
 use Rattle.summary_text.proofs.Marks.{Marked}
 use Rattle.summary_text.proofs.walks.received.Given as goal
 
 abbrev pub invariant-loop-i : goal.invariant-loop-i
-invariant-loop-i l = (l.i ≤ 120) × Marked 120 l.from l.counts l.i l.lines
-
-abbrev pub decreases-loop-i : goal.decreases-loop-i
-decreases-loop-i l = 120 - l.i
+invariant-loop-i l = Marked 120 l.from l.counts l.i l.lines

@@ -9,7 +9,7 @@ use borrow.Author.Rules.{rules}
 use Rattle.summary_text.proofs.walks.refusals.Goals as goal
 
 pub loop-i-init : goal.loop-i-init
-loop-i-init c = (search rules, search rules, through_none _ _ _)
+loop-i-init c = through_none _ _ _
 
 pub loop-i-preserved : goal.loop-i-preserved
 loop-i-preserved c =
@@ -17,8 +17,8 @@ loop-i-preserved c =
     let a = c.args in
     let text : ℕ → List ℕ = λ n. if_any n (pair a.words.now a.others.now l.i n) in
     let told = reads (ap text c.of-n.ensures) c.refusal-pen.ensures in
-    (search rules, search rules, through_on _ _ l.i l.invariant.2 (search rules) told)
+    through_on _ _ l.i l.invariant (search rules) told
 
 pub returns : goal.returns
 unfolding refusals
-returns c = through_all _ _ c.loop-i.i c.loop-i.invariant.2 (search rules)
+returns c = through_all _ _ c.loop-i.i c.loop-i.invariant (search rules)

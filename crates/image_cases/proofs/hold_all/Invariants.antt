@@ -1,9 +1,0 @@
--- `hold_all` is safe and ends.
-use Rattle.std.proofs.Common.{◌≡◌, ◌-◌, length}
-use Rattle.image_cases.proofs.hold_all.Given as goal
-
-abbrev pub invariant-loop-at : goal.invariant-loop-at
-invariant-loop-at l = (length l.image ≡ length l.initial.image) × (length l.lines ≡ length l.initial.lines)
-
-abbrev pub decreases-loop-at : goal.decreases-loop-at
-decreases-loop-at l = length l.held - l.at

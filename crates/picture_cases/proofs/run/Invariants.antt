@@ -1,9 +1,0 @@
--- `run` is safe and ends.
-use Rattle.std.proofs.Common.{◌≡◌, length}
-use Rattle.picture_cases.proofs.run.Given as goal
-
-abbrev pub invariant-loop-left : goal.invariant-loop-left
-invariant-loop-left l = length l.out ≡ length l.initial.out
-
-abbrev pub decreases-loop-left : goal.decreases-loop-left
-decreases-loop-left l = l.left

@@ -1,6 +1,0 @@
--- `text::fours` ends.
-use Rattle.std.proofs.Common.{length, ◌-◌}
-use Rattle.records.proofs.text.fours.Given as goal
-
-abbrev pub decreases-loop-i : goal.decreases-loop-i
-decreases-loop-i l = length l.s - l.i

@@ -1,6 +1,0 @@
--- `text::hex` ends.
-use Rattle.std.proofs.Common.{length, ◌-◌}
-use Rattle.records.proofs.text.hex.Given as goal
-
-abbrev pub decreases-loop-i : goal.decreases-loop-i
-decreases-loop-i l = length l.s - l.i

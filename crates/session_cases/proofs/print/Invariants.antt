@@ -1,6 +1,0 @@
--- `print` is safe and ends.
-use Rattle.std.proofs.Common.{◌-◌}
-use Rattle.session_cases.proofs.print.Given as goal
-
-abbrev pub decreases-loop-i : goal.decreases-loop-i
-decreases-loop-i l = 8 - l.i
