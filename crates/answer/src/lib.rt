@@ -13,8 +13,8 @@ pub enum Reason {
     TimeLength,
     // Arrival number 4,294,967,295 already used.
     Arrivals,
-    // A session with t above 8, or with a channel that holds above 250 octets, or any while out of step, or six or more whose packet's length
-    // is outside 16 to 251 or not above the number held.
+    // A session with t above 8, or with a channel that holds above 250 octets, or any while out of step, or six or more whose packet's
+    // length is outside 16 to 251 or not above the number held.
     Session,
 
     // Frame shorter than 23 + t or longer than 274.

@@ -24,7 +24,8 @@ fn gap(count: u8, last: u8) -> u8
     count.wrapping_sub(last).wrapping_sub(1)
 }
 
-// How many frames were lost between the last one, if one was heard, and the one with this count; none if there is no last one to compare with.
+// How many frames were lost between the last one, if one was heard, and the one with this count; none if there is no last one to compare
+// with.
 fn lost(heard: bool, last: u8, count: u8) -> Option<u8>
     ensures { result ≡ lost_since (last_of heard last) count }
 {

@@ -47,7 +47,8 @@ pub fn numbers(out: &mut [u8], at: usize, list: &[u32], after: u8) -> usize
 }
 
 // Reads the number that stands at index at of text and is ended by the octet after.
-// The answer is the number and the index behind the octet that ends it; none if there is no digit, a leading zero, a number above LARGEST, or another octet behind the digits.
+// The answer is the number and the index behind the octet that ends it; none if there is no digit, a leading zero, a number above LARGEST,
+// or another octet behind the digits.
 pub fn read(text: &[u8], at: usize, after: u8) -> Option<(u32, usize)>
     ensures { result ≡ read_at text.now at after }
 {

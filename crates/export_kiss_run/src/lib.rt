@@ -150,8 +150,8 @@ fn first(both: bool) -> usize
     1
 }
 
-// Leaves one frame's block in the output and answers the index behind it, or why the frame is left out: the block begins at index 1, behind a
-// 0xC0.
+// Leaves one frame's block in the output and answers the index behind it, or why the frame is left out: the block begins at index 1,
+// behind a 0xC0.
 fn hand_on(t: u8, frame: &[u8], out: &mut [u8]) -> Result<usize, Reason>
     requires { Fits frame.now out.old }
     ensures { HandsOn t frame.now result out.new }
@@ -160,8 +160,8 @@ fn hand_on(t: u8, frame: &[u8], out: &mut [u8]) -> Result<usize, Reason>
     kiss_writer::write(t, frame, &lengths, out)
 }
 
-// What a section leads to: t, how many frames have passed, the output's octets from an index up to another, which are to be written, or why a
-// frame is left out, and whether the run goes on.
+// What a section leads to: t, how many frames have passed, the output's octets from an index up to another, which are to be written, or why
+// a frame is left out, and whether the run goes on.
 #[derive(Clone, Copy)]
 struct Led {
     t: u8,

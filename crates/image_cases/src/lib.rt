@@ -45,7 +45,7 @@ fn hold(line: &[u8], image: &mut [u8], lines: &mut [u32]) {
 // Puts the held lines of a case into the image.
 fn hold_all(c: &[u8], image: &mut [u8], lines: &mut [u32]) {
     let held = input::block(c, places::HELD);
-    for line in held.chunks(193) {
+    for line in held.chunks_exact(193) {
         hold(line, image, lines);
     }
 }
@@ -63,7 +63,7 @@ pub fn place_in_order(c: &[u8], image: &mut [u8], lines: &mut [u32]) {
     let all = input::block(c, places::INPUT);
     let wanted = input::word(c, places::WANTED);
     text::say(b"accepted");
-    for one in all.chunks(256) {
+    for one in all.chunks_exact(256) {
         place_next(one, wanted, image, lines);
     }
     left(image, lines);

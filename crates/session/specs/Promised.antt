@@ -8,6 +8,9 @@ use Rattle.rules.specs.Cutting.{cut_of, firsts_of, first_behind}
 use Rattle.session.specs.Channel.{channel_of, stored}
 use Rattle.session.specs.Lent.{Lent, laid}
 use Rattle.session.specs.Asked.{Left}
+use Rattle.session.specs.Answers.{StepAnswer}
+use Rattle.session.specs.Step.{Steps}
+use Rattle.session.specs.declared.Session.{Session}
 use Rattle.session.specs.declared.cutting.Found.{Found}
 use Rattle.session.specs.declared.channels.Followed.{Followed}
 use Rattle.session.specs.declared.channels.Head.{Head}
@@ -62,3 +65,7 @@ pub record Heeds (a : Answer) (r : Heeded) (l l' : Lent) : Type 0 where
   pub packets : r.packets ≡ length a.packets
   pub headers : r.headers ≡ a.headers
   pub leaves : l' ≡ laid a.packets l
+
+-- A step in place: the session that is left and the answer are a step's.
+abbrev pub Advances : Session → List ℕ → Lent → Session → StepAnswer → Lent → Type 0
+Advances s frame l s' a l' = Steps s frame l (record { session = s'; answer = a }) l'

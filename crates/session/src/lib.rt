@@ -6,6 +6,7 @@ ghost use Rattle.session.specs.Channel.{unsound};
 ghost use Rattle.session.specs.Open.{opened, Opens};
 ghost use Rattle.session.specs.Lent.{lent, scant};
 ghost use Rattle.session.specs.Step.{barred, refusal_if, Steps, TurnsAway};
+ghost use Rattle.session.specs.Promised.{Advances};
 
 use answer::{Reason, Refusal};
 use channels::Head;
@@ -109,15 +110,15 @@ impl Session {
     }
 
     // Whether refusal 4 holds: t above 8, or a channel of which it holds.
-    fn unsound(self) -> bool
-        ensures { result ≡ unsound self }
+    fn unsound(&self) -> bool
+        ensures { result ≡ unsound self.now }
     {
         Session::TIME < self.t || self.channels.iter().any(|c| c.unsound())
     }
 
     // The first of refusals 1, 4 and 3 that holds, if one does.
-    fn barred(self, octets: &[u8], lengths: &[u16], firsts: &[u32]) -> Option<Refusal>
-        ensures { result ≡ refusal_if (barred self (lent octets.now lengths.now firsts.now)) }
+    fn barred(&self, octets: &[u8], lengths: &[u16], firsts: &[u32]) -> Option<Refusal>
+        ensures { result ≡ refusal_if (barred self.now (lent octets.now lengths.now firsts.now)) }
     {
         if scant(octets, lengths, firsts) {
             return Some(Refusal::of(Reason::Room));
@@ -146,21 +147,34 @@ impl Session {
             (lent octets.old lengths.old firsts.old) result
             (lent octets.new lengths.new firsts.new) }
     {
+        let answer = self.advance(frame, octets, lengths, firsts);
+        Stepped {
+            session: self,
+            answer,
+        }
+    }
+
+    // The same, with the session changed in place. It is compiled apart from its callers: within them the compiler would fill each step's
+    // result, of 2 KB, with zeros first.
+    #[inline(never)]
+    fn advance(
+        &mut self,
+        frame: &[u8],
+        octets: &mut [u8],
+        lengths: &mut [u16],
+        firsts: &mut [u32],
+    ) -> Result<Accepted, Refusal>
+        ensures { Advances self.old frame.now
+            (lent octets.old lengths.old firsts.old) self.new result
+            (lent octets.new lengths.new firsts.new) }
+    {
         if let Some(refusal) = self.barred(octets, lengths, firsts) {
-            return Stepped {
-                session: self,
-                answer: Err(refusal),
-            };
+            return Err(refusal);
         }
         self.arrival += 1;
         let f = match Frame::read(self.t, frame) {
             Ok(f) => f,
-            Err(reason) => {
-                return Stepped {
-                    session: self,
-                    answer: Err(Refusal::of(reason)),
-                };
-            }
+            Err(reason) => return Err(Refusal::of(reason)),
         };
         let i = f.channel as usize;
         let head = Head::of(self.arrival, f);
@@ -169,38 +183,33 @@ impl Session {
         self.channels[i] = heeded.channel;
         self.master = f.master;
         self.heard = true;
-        Stepped {
-            session: self,
-            answer: Ok(Accepted {
-                arrival: self.arrival,
-                channel: f.channel,
-                lost: heeded.lost,
-                master,
-                packets: heeded.packets,
-                headers: heeded.headers,
-            }),
-        }
+        Ok(Accepted {
+            arrival: self.arrival,
+            channel: f.channel,
+            lost: heeded.lost,
+            master,
+            packets: heeded.packets,
+            headers: heeded.headers,
+        })
     }
 
     // The session after a stretch that was refused before any frame could be read: the first of 1, 4, 3, else its own refusal,
     // which uses up an arrival number. The channels stay.
-    pub fn turn_away(self, own: u16, octets: &[u8], lengths: &[u16], firsts: &[u32]) -> Stepped
+    pub fn turn_away(mut self, own: u16, octets: &[u8], lengths: &[u16], firsts: &[u32]) -> Stepped
         ensures { TurnsAway self own
             (lent octets.now lengths.now firsts.now) result
             (lent octets.now lengths.now firsts.now) }
     {
-        if let Some(refusal) = self.barred(octets, lengths, firsts) {
-            return Stepped {
-                session: self,
-                answer: Err(refusal),
-            };
-        }
+        let answer = match self.barred(octets, lengths, firsts) {
+            Some(refusal) => Err(refusal),
+            None => {
+                self.arrival = self.arrival + 1;
+                Err(Refusal::plain(own))
+            }
+        };
         Stepped {
-            session: Session {
-                arrival: self.arrival + 1,
-                ..self
-            },
-            answer: Err(Refusal::plain(own)),
+            session: self,
+            answer,
         }
     }
 }

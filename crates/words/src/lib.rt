@@ -54,12 +54,16 @@ pub fn number(s: &[u8]) -> usize
 fn digit(x: u8) -> u8
     ensures { result ≡ digit_of x }
 {
-    match x {
-        b'0'..=b'9' => x - b'0',
-        b'A'..=b'F' => x - b'A' + 10,
-        b'a'..=b'f' => x - b'a' + 10,
-        _ => 16,
+    if (b'0' <= x) & (x <= b'9') {
+        return x - b'0';
     }
+    if (b'A' <= x) & (x <= b'F') {
+        return x - b'A' + 10;
+    }
+    if (b'a' <= x) & (x <= b'f') {
+        return x - b'a' + 10;
+    }
+    16
 }
 
 // Whether any octet of s is no hexadecimal digit.

@@ -14,19 +14,19 @@ unfolding barred pick
 returns-then-unsound c =
     simp (c.of-then-unsound.ensures, sym c.scant.ensures, c.if-scant.false, sym c.unsound.ensures, c.if-unsound.true)
 
-pub returns-then-self-eq-LAST : goal.returns-then-self-eq-LAST
+pub returns-then-self : goal.returns-then-self
 unfolding barred pick
-returns-then-self-eq-LAST c =
+returns-then-self c =
     simp (
-      c.of-then-self-eq-LAST.ensures,
+      c.of-then-self.ensures,
       sym c.scant.ensures,
       c.if-scant.false,
       sym c.unsound.ensures,
       c.if-unsound.false,
-      eq-eqb _ _ c.if-self-eq-LAST.true,
+      eq-eqb _ _ c.if-self.true,
     )
 
 pub returns : goal.returns
 unfolding barred pick
 returns c =
-    simp (sym c.scant.ensures, c.if-scant.false, sym c.unsound.ensures, c.if-unsound.false, ne_eqb _ _ c.if-self-eq-LAST.false)
+    simp (sym c.scant.ensures, c.if-scant.false, sym c.unsound.ensures, c.if-unsound.false, ne_eqb _ _ c.if-self.false)

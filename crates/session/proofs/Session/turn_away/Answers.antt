@@ -11,15 +11,15 @@ returns-in-Some c =
     let a = c.args in
     bars a.self (lent a.octets.now a.lengths.now a.firsts.now) c.barred.ensures c.in-Some.is _
 
-pub overflow_add-result : goal.overflow_add-result
-overflow_add-result c =
+pub overflow_add-self : goal.overflow_add-self
+overflow_add-self c =
     let a = c.args in
-    let n = (opens a.self (lent a.octets.now a.lengths.now a.firsts.now) c.barred.ensures c.in_default.is).numbers in
+    let n = (opens a.self (lent a.octets.now a.lengths.now a.firsts.now) c.barred.ensures c.in-None.is).numbers in
     search rules
 
-pub returns : goal.returns
+pub returns-in-None : goal.returns-in-None
 unfolding turned_away
-returns c =
+returns-in-None c =
     let a = c.args in
     let l = lent a.octets.now a.lengths.now a.firsts.now in
-    passes a.self l c.barred.ensures c.in_default.is _ _ _ (gives-plain (counted a.self) a.own c.plain.ensures l)
+    passes a.self l c.barred.ensures c.in-None.is _ _ _ (gives-plain (counted a.self) a.own c.plain.ensures l)
