@@ -54,13 +54,13 @@ pub fn number(s: &[u8]) -> usize
 fn digit(x: u8) -> u8
     ensures { result ≡ digit_of x }
 {
-    if (b'0' <= x) & (x <= b'9') {
+    if (b'0'..=b'9').contains(&x) {
         return x - b'0';
     }
-    if (b'A' <= x) & (x <= b'F') {
+    if (b'A'..=b'F').contains(&x) {
         return x - b'A' + 10;
     }
-    if (b'a' <= x) & (x <= b'f') {
+    if (b'a'..=b'f').contains(&x) {
         return x - b'a' + 10;
     }
     16
@@ -70,7 +70,7 @@ fn digit(x: u8) -> u8
 fn no_hex(s: &[u8]) -> bool
     ensures { result ≡ other_than_hex s.now }
 {
-    s.iter().any(|x| 15 < digit(*x))
+    s.iter().any(|x| !x.is_ascii_hexdigit())
 }
 
 // Puts the octets of hexadecimal digits at the start of out, where there is room.
